@@ -1,0 +1,175 @@
+-- What the proofs share: tests, membership, what is kept of a list, moments.
+use Prim.Native.Nat.{ℕ, zero, suc, _≤_}
+use mathlib.Core.Path.{_≡_, refl, sym, _∙_}
+use mathlib.Core.Logic.{_⊎_, inl, inr}
+use mathlib.Core.List.{List, [], _∷_, _++_, reverse, reverseAux}
+use mathlib.Core.Bool.{Bool, true, false, _&&_, _||_, and-eq-true-iff, false≢true}
+use native.Mathlib.Omega.{arith}
+use lib.Dec.{leb, eqb}
+use lib.ListN.{length}
+use borrow.Author.Tests.{leb-true, eqb-true, eqb-false, le-leb}
+use Rattle.model.specs.Store.{keep, any, _∈_}
+use Rattle.model.specs.Lookup.{anyUpTo, someReadable}
+
+pub case : {C : Type 0} (b : Bool) → (b ≡ true → C) → (b ≡ false → C) → C
+case true f g = f refl
+case false f g = g refl
+
+pub and→ : (a b : Bool) → (a && b) ≡ true → (a ≡ true) × (b ≡ true)
+and→ a b = and-eq-true-iff a b .0
+
+pub →and : {a b : Bool} → a ≡ true → b ≡ true → (a && b) ≡ true
+→and p q = rw (p, q)
+
+pub or→ : (a b : Bool) → (a || b) ≡ true → (a ≡ true) ⊎ (b ≡ true)
+or→ true b e = inl refl
+or→ false b e = inr e
+
+pub →or₂ : (a : Bool) {b : Bool} → b ≡ true → (a || b) ≡ true
+→or₂ true e = refl
+→or₂ false e = e
+
+-- two tests that imply one another
+pub same-test : (a b : Bool) → (a ≡ true → b ≡ true) → (b ≡ true → a ≡ true) → a ≡ b
+same-test true b f g = sym (f refl)
+same-test false true f g = g refl
+same-test false false f g = refl
+
+pub absurd-test : {C : Type 0} {b : Bool} → b ≡ true → b ≡ false → C
+absurd-test p q = absurd (false≢true (sym q ∙ p))
+
+module _ {A : Type 0} where
+  pub keep-true : (k : A → Bool) (x : A) (xs : List A) → k x ≡ true → keep k (x ∷ xs) ≡ x ∷ keep k xs
+  unfolding keep
+  keep-true k x xs e = rw e
+
+  pub keep-false : (k : A → Bool) (x : A) (xs : List A) → k x ≡ false → keep k (x ∷ xs) ≡ keep k xs
+  unfolding keep
+  keep-false k x xs e = rw e
+
+  pub keep-one : (k : A → Bool) (x : A) → k x ≡ true → keep k (x ∷ []) ≡ x ∷ []
+  unfolding keep
+  keep-one k x e = rw e
+
+  pub mem-keep : (k : A → Bool) (x : A) (xs : List A) → x ∈ keep k xs → (x ∈ xs) × (k x ≡ true)
+  unfolding keep
+  mem-keep k x [] m = absurd m
+  mem-keep k x (y ∷ ys) m =
+      let ih : x ∈ keep k ys → (x ∈ ys) × (k x ≡ true) = mem-keep k x ys in
+      case (k y)
+      (λ e.
+      let m′ : (x ≡ y) ⊎ (x ∈ keep k ys) = rw e at m in
+      elim m′ [ inl p ↦ (inl p, rw p e) | inr n ↦ (inr (ih n .0), ih n .1) ])
+      (λ e.
+      let m′ : x ∈ keep k ys = rw e at m in
+      (inr (ih m′ .0), ih m′ .1))
+
+  pub keep-mem : (k : A → Bool) (x : A) (xs : List A) → x ∈ xs → k x ≡ true → x ∈ keep k xs
+  unfolding keep
+  keep-mem k x (y ∷ ys) (inl p) e =
+      let e′ : k y ≡ true = rw p at e in
+      rw e′ (inl p)
+  keep-mem k x (y ∷ ys) (inr n) e =
+      let ih : x ∈ keep k ys = keep-mem k x ys n e in
+      case (k y) (λ d. rw d (inr ih)) (λ d. rw d ih)
+
+  pub length-keep : (k : A → Bool) (xs : List A) → length (keep k xs) ≤ length xs
+  unfolding keep
+  length-keep k [] = omega arith
+  length-keep k (y ∷ ys) =
+      let ih : length (keep k ys) ≤ length ys = length-keep k ys in
+      case (k y) (λ d. rw d (omega arith)) (λ d. rw d (omega arith))
+
+  pub keep-append : (k : A → Bool) (xs ys : List A) → keep k (xs ++ ys) ≡ keep k xs ++ keep k ys
+  unfolding keep
+  keep-append k [] ys = refl
+  keep-append k (x ∷ xs) ys =
+      let ih : keep k (xs ++ ys) ≡ keep k xs ++ keep k ys = keep-append k xs ys in
+      case (k x) (λ d. rw (d, ih)) (λ d. rw (d, ih))
+
+  pub keep-same : (k l : A → Bool) (xs : List A) → ((x : A) → x ∈ xs → k x ≡ l x) → keep k xs ≡ keep l xs
+  unfolding keep
+  keep-same k l [] h = refl
+  keep-same k l (x ∷ xs) h = rw (h x (inl refl), keep-same k l xs (λ y m. h y (inr m)))
+
+  pub any-mem : (k : A → Bool) (x : A) (xs : List A) → x ∈ xs → k x ≡ true → any k xs ≡ true
+  unfolding any
+  any-mem k x (y ∷ ys) (inl p) e = rw (← p, e)
+  any-mem k x (y ∷ ys) (inr n) e =
+      let ih : any k ys ≡ true = any-mem k x ys n e in
+      case (k y) (λ d. rw d) (λ d. rw (d, ih))
+
+  pub mem-any : (k : A → Bool) (xs : List A) → any k xs ≡ true → (x : A) × (x ∈ xs) × (k x ≡ true)
+  unfolding any
+  mem-any k [] e = absurd (false≢true e)
+  mem-any k (y ∷ ys) e =
+      case (k y)
+      (λ d. (y, inl refl, d))
+      (λ d.
+      let ih : (x : A) × (x ∈ ys) × (k x ≡ true) = mem-any k ys (rw d at e) in
+      (ih .0, inr (ih .1), ih .2))
+
+  -- one newest-first step of reversing
+  reverseAux-append : (xs ys zs : List A) → reverseAux (xs ++ ys) zs ≡ reverseAux ys (reverseAux xs zs)
+  reverseAux-append [] ys zs = refl
+  reverseAux-append (x ∷ xs) ys zs = reverseAux-append xs ys (x ∷ zs)
+
+  pub reverse-snoc : (xs : List A) (y : A) → reverse (xs ++ (y ∷ [])) ≡ y ∷ reverse xs
+  reverse-snoc xs y = reverseAux-append xs (y ∷ []) []
+
+  keep-reverseAux : (k : A → Bool) (xs ys : List A) → reverseAux (keep k xs) (keep k ys) ≡ keep k (reverseAux xs ys)
+  unfolding keep
+  keep-reverseAux k [] ys = refl
+  keep-reverseAux k (x ∷ xs) ys =
+      let ih : reverseAux (keep k xs) (keep k (x ∷ ys)) ≡ keep k (reverseAux xs (x ∷ ys)) = keep-reverseAux k xs (x ∷ ys) in
+      case (k x) (λ d. rw d (rw d at ih)) (λ d. rw d (rw d at ih))
+
+  pub keep-reverse : (k : A → Bool) (xs : List A) → reverse (keep k xs) ≡ keep k (reverse xs)
+  unfolding keep
+  keep-reverse k xs = keep-reverseAux k xs []
+
+-- moments from lo to hi
+anyUpTo-intro : (f : ℕ → Bool) (n t : ℕ) → t ≤ n → f t ≡ true → anyUpTo f n ≡ true
+unfolding anyUpTo
+anyUpTo-intro f zero t h e =
+    let z : t ≡ 0 = omega arith in
+    rw z at e
+anyUpTo-intro f (suc n) t h e =
+    case (eqb t (suc n))
+    (λ d.
+    let q : t ≡ suc n = eqb-true t (suc n) d in
+    let e′ : f (suc n) ≡ true = rw q at e in
+    rw e′)
+    (λ d.
+    let ne : t ≡ suc n → ⊥ = eqb-false t (suc n) d in
+    →or₂ (f (suc n)) (anyUpTo-intro f n t (omega arith) e))
+
+anyUpTo-elim : (f : ℕ → Bool) (n : ℕ) → anyUpTo f n ≡ true → (t : ℕ) × (t ≤ n) × (f t ≡ true)
+unfolding anyUpTo
+anyUpTo-elim f zero e = (0, omega arith, e)
+anyUpTo-elim f (suc n) e =
+    elim (or→ (f (suc n)) (anyUpTo f n) e) [
+      | inl p ↦ (suc n, omega arith, p)
+      | inr p ↦
+          let ih : (t : ℕ) × (t ≤ n) × (f t ≡ true) = anyUpTo-elim f n p in
+          (ih .0, omega (arith, ih .1), ih .2)
+    ]
+
+pub someReadable-intro : (lo hi : ℕ) (f : ℕ → Bool) (t : ℕ) → lo ≤ t → t ≤ hi → f t ≡ true → someReadable lo hi f ≡ true
+someReadable-intro lo hi f t h l e = anyUpTo-intro (λ u. leb lo u && f u) hi t l (→and (le-leb lo t h) e)
+
+pub someReadable-elim : (lo hi : ℕ) (f : ℕ → Bool) → someReadable lo hi f ≡ true → (t : ℕ) × (lo ≤ t) × (t ≤ hi) × (f t ≡ true)
+someReadable-elim lo hi f e =
+    let r : (t : ℕ) × (t ≤ hi) × ((leb lo t && f t) ≡ true) = anyUpTo-elim (λ u. leb lo u && f u) hi e in
+    let q : (leb lo (r .0) ≡ true) × (f (r .0) ≡ true) = and→ (leb lo (r .0)) (f (r .0)) (r .2) in
+    (r .0, leb-true lo (r .0) (q .0), r .1, q .1)
+
+pub someReadable-same : (lo hi : ℕ) (f g : ℕ → Bool) → ((t : ℕ) → lo ≤ t → t ≤ hi → f t ≡ g t) → someReadable lo hi f ≡ someReadable lo hi g
+someReadable-same lo hi f g h =
+    same-test (someReadable lo hi f) (someReadable lo hi g)
+    (λ e.
+    let r : (t : ℕ) × (lo ≤ t) × (t ≤ hi) × (f t ≡ true) = someReadable-elim lo hi f e in
+    someReadable-intro lo hi g (r .0) (r .1) (r .2) (sym (h (r .0) (r .1) (r .2)) ∙ r .3))
+    (λ e.
+    let r : (t : ℕ) × (lo ≤ t) × (t ≤ hi) × (g t ≡ true) = someReadable-elim lo hi g e in
+    someReadable-intro lo hi f (r .0) (r .1) (r .2) (h (r .0) (r .1) (r .2) ∙ r .3))

@@ -1,0 +1,76 @@
+-- A fresh store is sound, and agrees with the empty reference.
+use Prim.Native.Nat.{ℕ, zero, suc, _≤_}
+use mathlib.Core.Path.{_≡_, refl, _∙_}
+use mathlib.Core.List.{List, [], _∷_}
+use mathlib.Core.Option.{none}
+use mathlib.Core.Bool.{true}
+use native.Mathlib.Omega.{arith}
+use lib.ListN.{length, replicate, length-replicate, length-set}
+use Rattle.model.specs.declared.Branch.{Branch}
+use Rattle.model.specs.Store.{Store, branches, newest, records, keep, open-end, zero-branch, zero-record}
+use Rattle.model.specs.Lookup.{holds, ancestry, latest, firstFound, lookup}
+use Rattle.model.specs.Soundness.{sizesAllowed, used}
+use Rattle.model.specs.Fresh.{freshCheck, fresh, madeFresh}
+use Rattle.model.specs.Reference.{empty}
+use Rattle.model.proofs.Base.{case}
+use Rattle.model.proofs.Ancestry.{find}
+use Rattle.model.proofs.Invariant.{Allowed, Inv}
+use Rattle.model.proofs.Checked.{sizes→}
+
+fresh-newest : (size nb nr np : ℕ) (slab : List ℕ) → 1 ≤ nb → newest (fresh size nb nr np slab) ≡ record { start = 0; end = open-end; cut = 0 } ∷ []
+unfolding newest branches fresh
+fresh-newest size zero nr np slab h = absurd (omega arith)
+fresh-newest size (suc nb) nr np slab h = refl
+
+used-none : (n : ℕ) → used (replicate n 0) ≡ 0
+unfolding used keep
+used-none zero = refl
+used-none (suc n) = used-none n
+
+find-none : (a : ℕ) (bs : List Branch) (t : ℕ) → find [] a bs t ≡ none
+unfolding ancestry firstFound latest
+find-none a [] t = refl
+find-none a (b ∷ bs) t = case (holds b t) (λ e. rw e (find-none a bs (b .cut))) (λ e. rw e (find-none a bs t))
+
+fresh-inv : (size nb nr np : ℕ) (slab : List ℕ) → Allowed size nb nr np (length slab) → Inv (fresh size nb nr np slab) empty
+unfolding fresh records lookup
+fresh-inv size nb nr np slab m =
+    let lb : length (fresh size nb nr np slab .branchRows) ≡ nb = length-set (replicate nb zero-branch) 0 _ ∙ length-replicate nb zero-branch in
+    let lr : length (fresh size nb nr np slab .recordRows) ≡ nr = length-replicate nr zero-record in
+    let lp : length (fresh size nb nr np slab .placeRows) ≡ np = length-replicate np 0 in
+    let en : newest (fresh size nb nr np slab) ≡ record { start = 0; end = open-end; cut = 0 } ∷ [] = fresh-newest size nb nr np slab (m .branches-low) in
+    record {
+      sound =
+          record {
+            sizes = omega arith;
+            rows = rw en (record { still = refl; begun = omega arith }, record { start = refl; cut = refl; ordered = omega arith });
+            ascends = tt;
+            fits = λ r i. absurd i;
+            named = tt;
+            in-use = used-none np;
+          };
+      now = refl;
+      floor = refl;
+      held = refl;
+      reads = λ a t i j. rw (find-none a (newest (fresh size nb nr np slab)) t);
+    }
+
+-- what is lent, made a fresh store
+module _ (lent : Store) (size : ℕ) (accepted : freshCheck lent size ≡ 0) where
+  allowed : sizesAllowed size (length (lent .branchRows)) (length (lent .recordRows)) (length (lent .placeRows)) (length (lent .slab)) ≡ true
+  unfolding freshCheck
+  allowed =
+      case (sizesAllowed size (length (lent .branchRows)) (length (lent .recordRows)) (length (lent .placeRows)) (length (lent .slab)))
+      (λ e. e)
+      (λ e. let z : 1 ≡ 0 = rw e at accepted in absurd (omega arith))
+
+  pub made-is : madeFresh lent size ≡ fresh size (length (lent .branchRows)) (length (lent .recordRows)) (length (lent .placeRows)) (lent .slab)
+  unfolding madeFresh
+  made-is = rw allowed
+
+  pub made-inv : Inv (madeFresh lent size) empty
+  made-inv = rw made-is (fresh-inv size _ _ _ (lent .slab) (sizes→ _ _ _ _ _ allowed))
+
+  pub made-size : madeFresh lent size .head .size ≡ size
+  unfolding fresh
+  made-size = rw made-is

@@ -1,0 +1,138 @@
+-- The invariant: sound tables, as statements, and a store against the reference of snapshots.
+use Prim.Native.Nat.{ℕ, suc, _+_, _*_, _≤_, _<_}
+use mathlib.Core.Path.{_≡_, refl}
+use mathlib.Core.Logic.{inl, inr}
+use mathlib.Core.List.{List, [], _∷_, map}
+use mathlib.Core.Bool.{true, _&&_, _||_}
+use lib.Dec.{leb, eqb}
+use lib.ListN.{length, getD}
+use borrow.Author.Tests.{leb-false, lt-ltb, le-leb, eq-eqb}
+use Rattle.model.specs.declared.Branch.{Branch}
+use Rattle.model.specs.declared.Record.{Record}
+use Rattle.model.specs.Store.{Store, branches, newest, records, any, open-end, foundPage, _∈_}
+use Rattle.model.specs.Lookup.{holds, lookup}
+use Rattle.model.specs.Soundness.{between, sizesAllowed, inRange, chained, openRow, branchesSound, ascending, placed, used, recordsSound, tableCheck}
+use Rattle.model.specs.Reference.{Snapshot, Reference}
+use Rattle.model.proofs.Base.{case, →and, →or₂}
+use Rattle.model.specs.Demand3.{key}
+use Rattle.model.proofs.Latest.{Asc}
+use Rattle.model.proofs.Ancestry.{Link, Chain, SoundRows}
+use Rattle.model.proofs.Places.{Named}
+
+-- the sizes that a store may have
+pub record Allowed (size nb nr np ns : ℕ) : Type 0 where
+  pub size-low : 1 ≤ size
+  pub size-high : size ≤ 65536
+  pub branches-low : 1 ≤ nb
+  pub branches-high : nb ≤ 4096
+  pub records-low : 1 ≤ nr
+  pub records-high : nr ≤ 65536
+  pub places-low : 1 ≤ np
+  pub places-high : np ≤ 65536
+  pub slab : ns ≡ 256 * np
+
+pub record Sizes (s : Store) : Type 0 where
+  pub allowed : Allowed (s .head .size) (length (s .branchRows)) (length (s .recordRows)) (length (s .placeRows)) (length (s .slab))
+  pub counted-low : 1 ≤ s .head .branches
+  pub counted-high : s .head .branches ≤ length (s .branchRows)
+  pub records-counted : s .head .records ≤ length (s .recordRows)
+  pub floor-now : s .head .floor ≤ s .head .now
+  pub now-high : s .head .now ≤ open-end
+
+pub record Fits (size now : ℕ) (bs : List Branch) (r : Record) : Type 0 where
+  pub address : r .address < size
+  pub moment : r .moment ≤ now
+  pub held : any (λ b. holds b (r .moment)) bs ≡ true
+
+pub record Sound (s : Store) : Type 0 where
+  pub sizes : Sizes s
+  pub rows : SoundRows (s .head .floor) (s .head .now) (newest s)
+  pub ascends : Asc (records s)
+  pub fits : (r : Record) → r ∈ records s → Fits (s .head .size) (s .head .now) (newest s) r
+  pub named : Named (s .placeRows) 1 (records s)
+  pub in-use : used (s .placeRows) ≡ s .head .records
+
+-- such a store passes the table checks
+→chained : (floor : ℕ) (bs : List Branch) → Chain floor bs → chained floor bs ≡ true
+unfolding chained
+→chained floor [] h = absurd h
+→chained floor (b ∷ []) h = →and (eq-eqb (b .start) 0 (h .start)) (→and (eq-eqb (b .cut) 0 (h .cut)) (le-leb (b .start) (b .end) (h .ordered)))
+→chained floor (b ∷ c ∷ bs) h =
+    let l : Link floor b c bs = h .0 in
+    →and (le-leb (b .start) (b .end) (l .ordered))
+    (→and (lt-ltb (c .end) (b .start) (l .after))
+    (→and (follows l) (→and (l .parent) (→chained floor (c ∷ bs) (h .1)))))
+  where
+    follows : Link floor b c bs → (eqb (b .start) (c .end + 1) || leb (b .start) floor) ≡ true
+    follows l =
+        case (leb (b .start) floor)
+        (λ e. →or₂ (eqb (b .start) (c .end + 1)) e)
+        (λ e. rw (eq-eqb (b .start) (c .end + 1) (l .follows (leb-false (b .start) floor e))))
+
+→open : (floor now : ℕ) (bs : List Branch) → SoundRows floor now bs → (openRow now bs && chained floor bs) ≡ true
+→open floor now [] h = absurd h
+→open floor now (b ∷ bs) h =
+    →and (→and (eq-eqb (b .end) open-end (h .0 .still)) (le-leb (b .start) now (h .0 .begun))) (→chained floor (b ∷ bs) (h .1))
+
+pub →ascending : (rs : List Record) → Asc rs → ascending rs ≡ true
+unfolding ascending
+→ascending [] h = refl
+→ascending (r ∷ []) h = refl
+→ascending (r ∷ q ∷ rs) h = →and (h .0 q (inl refl)) (→ascending (q ∷ rs) (h .1))
+
+→placed : (s : Store) (i : ℕ) (rs : List Record) → ((r : Record) → r ∈ rs → Fits (s .head .size) (s .head .now) (newest s) r)
+    → Named (s .placeRows) i rs → placed s i rs ≡ true
+unfolding placed
+→placed s i [] f n = refl
+→placed s i (r ∷ rs) f n =
+    let g : Fits (s .head .size) (s .head .now) (newest s) r = f r (inl refl) in
+    →and (lt-ltb (r .address) (s .head .size) (g .address))
+    (→and (le-leb (r .moment) (s .head .now) (g .moment))
+    (→and (g .held)
+    (→and (lt-ltb (r .place) (length (s .placeRows)) (n .0))
+    (→and (eq-eqb (getD (s .placeRows) (r .place) 0) i (n .1)) (→placed s (suc i) rs (λ q m. f q (inr m)) (n .2))))))
+
+→between : (lo hi n : ℕ) → lo ≤ n → n ≤ hi → between lo hi n ≡ true
+→between lo hi n l h = →and (le-leb lo n l) (le-leb n hi h)
+
+pub →sizes : (size nb nr np ns : ℕ) → Allowed size nb nr np ns → sizesAllowed size nb nr np ns ≡ true
+unfolding sizesAllowed
+→sizes size nb nr np ns z =
+    →and (→between 1 65536 size (z .size-low) (z .size-high))
+    (→and (→between 1 4096 nb (z .branches-low) (z .branches-high))
+    (→and (→between 1 65536 nr (z .records-low) (z .records-high))
+    (→and (→between 1 65536 np (z .places-low) (z .places-high)) (eq-eqb ns (256 * np) (z .slab)))))
+
+→inRange : (s : Store) → Sizes s → inRange s ≡ true
+unfolding inRange
+→inRange s z =
+    →and (→sizes _ _ _ _ _ (z .allowed))
+    (→and (→between 1 (length (s .branchRows)) (s .head .branches) (z .counted-low) (z .counted-high))
+    (→and (le-leb (s .head .records) (length (s .recordRows)) (z .records-counted)) (le-leb (s .head .floor) (s .head .now) (z .floor-now))))
+
+pub sound-check : (s : Store) → Sound s → tableCheck s ≡ 0
+unfolding tableCheck branchesSound recordsSound
+sound-check s h =
+    let a : inRange s ≡ true = →inRange s (h .sizes) in
+    let b : (openRow (s .head .now) (newest s) && chained (s .head .floor) (newest s)) ≡ true = →open _ _ (newest s) (h .rows) in
+    let c : (ascending (records s) && (placed s 1 (records s) && eqb (used (s .placeRows)) (s .head .records))) ≡ true =
+    →and (→ascending (records s) (h .ascends))
+    (→and (→placed s 1 (records s) (h .fits) (h .named)) (eq-eqb (used (s .placeRows)) (s .head .records) (h .in-use))) in
+    rw (a, b, c)
+
+abbrev pub Reads : Store → (ℕ → Snapshot) → Type 0
+Reads s snaps = (a t : ℕ) → s .head .floor ≤ t → t ≤ s .head .now → foundPage (s .slab) (lookup s a t) ≡ snaps t a
+
+pub record Inv (s : Store) (p : Reference) : Type 0 where
+  pub sound : Sound s
+  pub now : s .head .now ≡ p .now
+  pub floor : s .head .floor ≡ p .floor
+  pub held : map key (records s) ≡ p .held
+  pub reads : Reads s (p .snapshot)
+
+-- the reference that a store stands for, with its snapshots
+abbrev pub referenceOf : Store → (ℕ → Snapshot) → Reference
+referenceOf s snaps = record { now = s .head .now; floor = s .head .floor; snapshot = snaps; held = map key (records s) }
+
+pub canon : (s : Store) (p : Reference) → Inv s p → referenceOf s (p .snapshot) ≡ p
+canon s p v = λ i. record { now = v .now i; floor = v .floor i; snapshot = p .snapshot; held = v .held i }

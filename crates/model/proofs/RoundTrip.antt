@@ -1,0 +1,116 @@
+-- Requests and answers: what is sent is what is read.
+use Prim.Native.Nat.{ℕ, _+_, _^_, _<_}
+use mathlib.Core.Path.{_≡_, refl, ap, _∙_}
+use mathlib.Core.List.{List, [], _∷_, _++_, append-assoc}
+use mathlib.Core.Option.{Option, some, none}
+use mathlib.Core.Bool.{true}
+use native.Mathlib.Omega.{arith}
+use native.Mathlib.Nat.{mod-eq-of-lt}
+use lib.Dec.{leb}
+use lib.ListN.{length, take, drop, length-append}
+use lib.Seq.{take-at, drop-at}
+use borrow.Author.Tests.{le-leb}
+use Rattle.model.specs.Store.{Page}
+use Rattle.model.specs.Wire.{number, bytes, Field, packed, field, Request, write, mark, revert, readAt, reclaim, requestHead, requestBytes, one, byOperation, ofWord, parse, Answer, present, pageBytes, answerBytes}
+use Rattle.model.proofs.Packing.{number-bytes, length-bytes, Fit, bits, packed-fits, field-read}
+
+-- the fields of a request, and of an answer
+abbrev requestFields : ℕ → ℕ → ℕ → ℕ → List Field
+requestFields o a m z =
+    record { width = 3; value = o } ∷ record { width = 16; value = a } ∷ record { width = 32; value = m } ∷ record { width = 5; value = z } ∷ []
+
+-- bytes enough for the fields spell their number again
+pub spelled : (count : ℕ) (fs : List Field) → Fit fs → 2 ^ bits fs ≡ 256 ^ count → number 0 (bytes count (packed 0 fs)) ≡ packed 0 fs
+spelled count fs h e =
+    number-bytes count 0 (packed 0 fs) ∙ (omega arith ∙ mod-eq-of-lt (rw e at (packed-fits fs h)))
+
+parse-seven : (xs rest : List ℕ) → length xs ≡ 7 → parse (xs ++ rest) ≡ ofWord (number 0 xs) rest
+unfolding parse
+parse-seven [] rest l = absurd (omega arith)
+parse-seven (x ∷ xs) rest l =
+    let h : leb 7 (length (x ∷ (xs ++ rest))) ≡ true = le-leb 7 (length (x ∷ (xs ++ rest))) (omega (arith, length-append xs rest)) in
+    let t : take 7 (x ∷ (xs ++ rest)) ≡ x ∷ xs = take-at (x ∷ xs) rest 7 l in
+    let d : drop 7 (x ∷ (xs ++ rest)) ≡ rest = drop-at (x ∷ xs) rest 7 l in
+    rw (h, t, d)
+
+-- the fields that are sent are the fields that are read
+pub parse-head : (o a m z : ℕ) (rest : List ℕ) → o < 8 → a < 65536 → m < 4294967296 → z < 32
+    → parse (requestHead o a m z ++ rest) ≡ byOperation o a m z rest
+parse-head o a m z rest ho ha hm hz =
+    let fit : Fit (requestFields o a m z) = (ho, (ha, (hm, (hz, tt)))) in
+    let w : ℕ = packed 0 (requestFields o a m z) in
+    let e : number 0 (requestHead o a m z) ≡ w = spelled 7 (requestFields o a m z) fit refl in
+    let fo : field w 53 3 ≡ o = field-read 0 [] (record { width = 3; value = o }) _ fit in
+    let fa : field w 37 16 ≡ a = field-read 0 (record { width = 3; value = o } ∷ []) (record { width = 16; value = a }) _ (fit .1) in
+    let fm : field w 5 32 ≡ m = field-read 0 (record { width = 3; value = o } ∷ record { width = 16; value = a } ∷ []) (record { width = 32; value = m }) _ (fit .1 .1) in
+    let fz : field w 0 5 ≡ z = field-read 0 (record { width = 3; value = o } ∷ record { width = 16; value = a } ∷ record { width = 32; value = m } ∷ []) (record { width = 5; value = z }) [] (fit .1 .1 .1) in
+    parse-seven (requestHead o a m z) rest (length-bytes 7 w) ∙ rw (e, fo, fa, fm, fz)
+
+-- a request that can be sent: its fields fit, and its page is whole
+abbrev pub Sendable : Request → Type 0
+Sendable (write a page) = (a < 65536) × (length page ≡ 256)
+Sendable mark = Unit {0}
+Sendable (revert m) = m < 4294967296
+Sendable (readAt a m) = (a < 65536) × (m < 4294967296)
+Sendable (reclaim m) = m < 4294967296
+
+pub length-head : (o a m z : ℕ) → length (requestHead o a m z) ≡ 7
+length-head o a m z = length-bytes 7 (packed 0 (requestFields o a m z))
+
+-- a request that is sent is the request that is read, with its length, whatever follows
+pub request-round : (q : Request) (rest : List ℕ) → Sendable q → parse (requestBytes q ++ rest) ≡ one q (length (requestBytes q))
+unfolding requestBytes byOperation bytes
+request-round (write a page) rest h =
+    let l : length page ≡ 256 = h .1 in
+    let n : length (requestHead 1 a 0 0 ++ page) ≡ 263 = omega (arith, length-append (requestHead 1 a 0 0) page, length-head 1 a 0 0) in
+    let i : leb 256 (length (page ++ rest)) ≡ true = le-leb 256 (length (page ++ rest)) (omega (arith, length-append page rest)) in
+    let t : take 256 (page ++ rest) ≡ page = take-at page rest 256 l in
+    ap parse (append-assoc (requestHead 1 a 0 0) page rest)
+    ∙ (parse-head 1 a 0 0 (page ++ rest) (omega arith) (h .0) (omega arith) (omega arith) ∙ rw (i, t, n))
+request-round mark rest h = parse-head 2 0 0 0 rest (omega arith) (omega arith) (omega arith) (omega arith)
+request-round (revert m) rest h = parse-head 3 0 m 0 rest (omega arith) (omega arith) h (omega arith)
+request-round (readAt a m) rest h = parse-head 4 a m 0 rest (omega arith) (h .0) (h .1) (omega arith)
+request-round (reclaim m) rest h = parse-head 5 0 m 0 rest (omega arith) (omega arith) h (omega arith)
+
+-- the four fields of an answer's head
+abbrev pub answerFields : Answer → List Field
+answerFields x =
+    record { width = 6; value = x .refusal } ∷ record { width = 1; value = present (x .page) } ∷ record { width = 1; value = 0 }
+    ∷ record { width = 32; value = x .value } ∷ []
+
+pub present-fits : (o : Option Page) → present o < 2
+present-fits none = omega arith
+present-fits (some p) = omega arith
+
+pub length-answer : (x : Answer) → length (answerBytes x) ≡ 5 + length (pageBytes (x .page))
+unfolding answerBytes
+length-answer x = length-append (bytes 5 (packed 0 (answerFields x))) (pageBytes (x .page)) ∙ ap (λ (n : ℕ). n + length (pageBytes (x .page))) (length-bytes 5 (packed 0 (answerFields x)))
+
+-- what a receiver reads of an answer: the four fields of the first five bytes, then the page
+pub record AnswerRead (x : Answer) : Type 0 where
+  pub refusal : field (number 0 (take 5 (answerBytes x))) 34 6 ≡ x .refusal
+  pub present-bit : field (number 0 (take 5 (answerBytes x))) 33 1 ≡ present (x .page)
+  pub spare : field (number 0 (take 5 (answerBytes x))) 32 1 ≡ 0
+  pub value : field (number 0 (take 5 (answerBytes x))) 0 32 ≡ x .value
+  pub page : drop 5 (answerBytes x) ≡ pageBytes (x .page)
+
+pub answer-round : (x : Answer) → x .refusal < 64 → x .value < 4294967296 → AnswerRead x
+unfolding answerBytes
+answer-round x hr hv =
+    let fit : Fit (answerFields x) = (hr, (present-fits (x .page), (omega arith, (hv, tt)))) in
+    let w : ℕ = packed 0 (answerFields x) in
+    let t : take 5 (bytes 5 w ++ pageBytes (x .page)) ≡ bytes 5 w = take-at (bytes 5 w) (pageBytes (x .page)) 5 (length-bytes 5 w) in
+    let e : number 0 (bytes 5 w) ≡ w = spelled 5 (answerFields x) fit refl in
+    record {
+      refusal = rw (t, e) (field-read 0 [] (record { width = 6; value = x .refusal }) _ fit);
+      present-bit = rw (t, e) (field-read 0 (record { width = 6; value = x .refusal } ∷ []) (record { width = 1; value = present (x .page) }) _ (fit .1));
+      spare =
+          rw (t, e)
+          (field-read 0 (record { width = 6; value = x .refusal } ∷ record { width = 1; value = present (x .page) } ∷ []) (record { width = 1; value = 0 })
+          _ (fit .1 .1));
+      value =
+          rw (t, e)
+          (field-read 0 (record { width = 6; value = x .refusal } ∷ record { width = 1; value = present (x .page) } ∷ record { width = 1; value = 0 } ∷ [])
+          (record { width = 32; value = x .value }) [] (fit .1 .1 .1));
+      page = drop-at (bytes 5 w) (pageBytes (x .page)) 5 (length-bytes 5 w);
+    }

@@ -1,0 +1,30 @@
+-- Making a fresh store over what is lent.
+use Prim.Native.Nat.{ℕ}
+use mathlib.Core.List.{List}
+use mathlib.Core.Bool.{cond}
+use lib.ListN.{length, set, replicate}
+use Rattle.model.specs.Store.{Store, open-end, zero-branch, zero-record}
+use Rattle.model.specs.Soundness.{sizesAllowed}
+
+-- the refusal of a fresh store of `size` pages over what is lent: 1, or 0 where there is none
+unfoldable pub freshCheck : Store → ℕ → ℕ
+freshCheck s size =
+    cond (sizesAllowed size (length (s .branchRows)) (length (s .recordRows)) (length (s .placeRows)) (length (s .slab))) 0 1
+
+-- a fresh store over tables of these lengths: one branch, no record, now and floor 0, all other rows zero, the slab untouched
+unfoldable pub fresh : ℕ → ℕ → ℕ → ℕ → List ℕ → Store
+fresh size branchRows recordRows placeRows slab =
+    record {
+      head = record { size = size; branches = 1; records = 0; now = 0; floor = 0 };
+      branchRows = set (replicate branchRows zero-branch) 0 (record { start = 0; end = open-end; cut = 0 });
+      recordRows = replicate recordRows zero-record;
+      placeRows = replicate placeRows 0;
+      slab = slab;
+    }
+
+-- what is lent, made a fresh store
+unfoldable pub madeFresh : Store → ℕ → Store
+madeFresh s size =
+    cond (sizesAllowed size (length (s .branchRows)) (length (s .recordRows)) (length (s .placeRows)) (length (s .slab)))
+    (fresh size (length (s .branchRows)) (length (s .recordRows)) (length (s .placeRows)) (s .slab))
+    s

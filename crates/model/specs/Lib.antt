@@ -1,0 +1,9 @@
+pub mod Store
+pub mod Lookup
+pub mod Soundness
+pub mod Wire
+pub mod Step
+pub mod Fresh
+pub mod Batch
+pub mod Reference
+pub mod Demand3

@@ -1,0 +1,82 @@
+-- Sound tables: table checks 1, 2 and 3, in this order.
+use Prim.Native.Nat.{ℕ, suc, _+_, _*_}
+use mathlib.Core.List.{List, [], _∷_}
+use mathlib.Core.Bool.{Bool, true, false, cond, _&&_, _||_, not}
+use lib.Dec.{leb, ltb, eqb}
+use lib.ListN.{length, getD}
+use Rattle.model.specs.declared.Branch.{Branch}
+use Rattle.model.specs.declared.Record.{Record}
+use Rattle.model.specs.Store.{Store, newest, records, any, keep, open-end}
+use Rattle.model.specs.Lookup.{holds}
+
+abbrev pub between : ℕ → ℕ → ℕ → Bool
+between lo hi n = leb lo n && leb n hi
+
+-- the volume size A, the rows of the three tables and the bytes of the slab are in their ranges
+unfoldable pub sizesAllowed : ℕ → ℕ → ℕ → ℕ → ℕ → Bool
+sizesAllowed size branchRows recordRows placeRows slabBytes =
+    between 1 65536 size && (between 1 4096 branchRows && (between 1 65536 recordRows
+    && (between 1 65536 placeRows && eqb slabBytes (256 * placeRows))))
+
+-- the branch count is 1 to the rows lent, the record count 0 to the rows lent, and the floor is at most now
+abbrev pub countsAllowed : Store → Bool
+countsAllowed s =
+    between 1 (length (s .branchRows)) (s .head .branches) && (leb (s .head .records) (length (s .recordRows))
+    && leb (s .head .floor) (s .head .now))
+
+-- check 1: head, counts and lengths
+unfoldable pub inRange : Store → Bool
+inRange s =
+    sizesAllowed (s .head .size) (length (s .branchRows)) (length (s .recordRows)) (length (s .placeRows)) (length (s .slab))
+    && countsAllowed s
+
+-- the first row, then each row against those before it; rows stand newest first.
+-- start at most end, above the end before it, following it by one or at most the floor; the cut inside an earlier row, the parent
+unfoldable pub chained : ℕ → List Branch → Bool
+chained floor [] = false
+chained floor (b ∷ []) = eqb (b .start) 0 && (eqb (b .cut) 0 && leb (b .start) (b .end))
+chained floor (b ∷ c ∷ earlier) =
+    leb (b .start) (b .end) && (ltb (c .end) (b .start) && ((eqb (b .start) (c .end + 1) || leb (b .start) floor)
+    && (any (λ d. holds d (b .cut)) (c ∷ earlier) && chained floor (c ∷ earlier))))
+
+-- the last row is still open, and starts at most at now
+abbrev pub openRow : ℕ → List Branch → Bool
+openRow now [] = false
+openRow now (b ∷ earlier) = eqb (b .end) open-end && leb (b .start) now
+
+-- check 2: branch rows
+unfoldable pub branchesSound : Store → Bool
+branchesSound s = openRow (s .head .now) (newest s) && chained (s .head .floor) (newest s)
+
+-- ascending by address, then moment
+unfoldable pub precedes : Record → Record → Bool
+precedes r q = ltb (r .address) (q .address) || (eqb (r .address) (q .address) && ltb (r .moment) (q .moment))
+
+unfoldable pub ascending : List Record → Bool
+ascending [] = true
+ascending (r ∷ []) = true
+ascending (r ∷ q ∷ rs) = precedes r q && ascending (q ∷ rs)
+
+-- each record by itself: address below A, moment at most now and inside a counted branch row, place inside the place table,
+-- and that place row names the record; i is its row, counted from 1
+unfoldable pub placed : Store → ℕ → List Record → Bool
+placed s i [] = true
+placed s i (r ∷ rs) =
+    ltb (r .address) (s .head .size) && (leb (r .moment) (s .head .now) && (any (λ b. holds b (r .moment)) (newest s)
+    && (ltb (r .place) (length (s .placeRows)) && (eqb (getD (s .placeRows) (r .place) 0) i && placed s (suc i) rs))))
+
+-- a place row is in use unless it is 0
+abbrev pub inUse : ℕ → Bool
+inUse k = not (eqb k 0)
+
+-- how many place rows are in use
+unfoldable pub used : List ℕ → ℕ
+used ps = length (keep inUse ps)
+
+-- check 3: records and places
+unfoldable pub recordsSound : Store → Bool
+recordsSound s = ascending (records s) && (placed s 1 (records s) && eqb (used (s .placeRows)) (s .head .records))
+
+-- the refusal of the table checks, 0 where there is none
+unfoldable pub tableCheck : Store → ℕ
+tableCheck s = cond (inRange s) (cond (branchesSound s) (cond (recordsSound s) 0 3) 2) 1

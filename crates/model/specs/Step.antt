@@ -1,0 +1,176 @@
+-- What each of the five requests does to a store, with its refusals in their order.
+use Prim.Native.Nat.{ℕ, zero, suc, _+_, _-_}
+use mathlib.Core.List.{List, [], _∷_, _++_, map}
+use mathlib.Core.Option.{Option, some, none, Option·map}
+use mathlib.Core.Bool.{Bool, cond}
+use lib.Dec.{leb, ltb}
+use lib.ListN.{length, take, drop, getD, set, replicate}
+use Rattle.model.specs.declared.Branch.{Branch}
+use Rattle.model.specs.declared.Record.{Record}
+use Rattle.model.specs.declared.Head.{Head}
+use Rattle.model.specs.Store.{Store, branches, records, keep, open-end, zero-branch, zero-record, withPage, foundPage}
+use Rattle.model.specs.Lookup.{lookup, latest, isGiven, isAncestor}
+use Rattle.model.specs.Soundness.{precedes}
+use Rattle.model.specs.Wire.{Request, write, mark, revert, readAt, reclaim, Answer, refused, accepted}
+
+-- the store after a request, and the answer
+pub record Stepped : Type 0 where
+  pub store : Store
+  pub answer : Answer
+
+-- a refused request alters nothing
+abbrev pub unchanged : Store → ℕ → Stepped
+unchanged s n = record { store = s; answer = refused n }
+
+-- the head with other counts, now and floor
+abbrev pub headWith : Head → ℕ → ℕ → ℕ → ℕ → Head
+headWith h bs rs now floor = record { size = h .size; branches = bs; records = rs; now = now; floor = floor }
+
+abbrev pub withHead : Store → Head → Store
+withHead s h =
+    record { head = h; branchRows = s .branchRows; recordRows = s .recordRows; placeRows = s .placeRows; slab = s .slab }
+
+abbrev pub withSlab : Store → List ℕ → Store
+withSlab s sl =
+    record { head = s .head; branchRows = s .branchRows; recordRows = s .recordRows; placeRows = s .placeRows; slab = sl }
+
+-- write
+
+-- the record at (address, now), which a write overwrites
+abbrev pub standing : Store → ℕ → Option Record
+standing s a = latest (records s) a (s .head .now) (s .head .now)
+
+-- the free place of the smallest number
+unfoldable pub firstFree : List ℕ → Option ℕ
+firstFree [] = none
+firstFree (zero ∷ ps) = some 0
+firstFree (suc k ∷ ps) = Option·map suc (firstFree ps)
+
+-- how many records stand before a record
+unfoldable pub before : Record → List Record → ℕ
+before q [] = 0
+before q (r ∷ rs) = cond (precedes r q) (suc (before q rs)) 0
+
+-- a place row after a record was put in at row `at`: the name of a record from there on is one higher
+abbrev pub shifted : ℕ → ℕ → ℕ
+shifted at k = cond (leb k at) k (suc k)
+
+-- a record put in at row `at` of the counted ones
+abbrev pub putIn : ℕ → Record → List Record → List Record
+putIn at r rs = take at rs ++ (r ∷ drop at rs)
+
+-- a new record at row `at`, its place row and its page
+unfoldable pub inserted : Store → Record → List ℕ → ℕ → Store
+inserted s r page at =
+    record {
+      head = headWith (s .head) (s .head .branches) (s .head .records + 1) (s .head .now) (s .head .floor);
+      branchRows = s .branchRows;
+      recordRows = putIn at r (records s) ++ drop (s .head .records + 1) (s .recordRows);
+      placeRows = set (map (shifted at) (s .placeRows)) (r .place) (suc at);
+      slab = withPage (s .slab) (r .place) page;
+    }
+
+-- a write that needs a place: 6 where none is free
+abbrev pub intoFree : Store → ℕ → List ℕ → Option ℕ → Stepped
+intoFree s a page none = unchanged s 6
+intoFree s a page (some p) =
+    let r : Record = record { address = a; moment = s .head .now; place = p } in
+    record { store = inserted s r page (before r (records s)); answer = accepted (s .head .now) }
+
+-- a record already there is overwritten in its own place; else a row is needed, 5 where the record table is full
+abbrev pub written : Store → ℕ → List ℕ → Option Record → Stepped
+written s a page (some r) =
+    record { store = withSlab s (withPage (s .slab) (r .place) page); answer = accepted (s .head .now) }
+written s a page none =
+    cond (ltb (s .head .records) (length (s .recordRows))) (intoFree s a page (firstFree (s .placeRows))) (unchanged s 5)
+
+unfoldable pub doWrite : Store → ℕ → List ℕ → Stepped
+doWrite s a page = cond (ltb a (s .head .size)) (written s a page (standing s a)) (unchanged s 4)
+
+-- mark
+
+unfoldable pub doMark : Store → Stepped
+doMark s =
+    cond (ltb (s .head .now) open-end)
+    (record {
+      store = withHead s (headWith (s .head) (s .head .branches) (s .head .records) (s .head .now + 1) (s .head .floor));
+      answer = accepted (s .head .now);
+    })
+    (unchanged s 10)
+
+-- revert
+
+-- a branch row with now sealed as its end
+abbrev pub closedAt : ℕ → Branch → Branch
+closedAt t b = record { start = b .start; end = t; cut = b .cut }
+
+-- the current branch ends at now; a new one starts after it, with the moment reverted to as its cut
+unfoldable pub branched : Store → ℕ → Store
+branched s m =
+    record {
+      head = headWith (s .head) (s .head .branches + 1) (s .head .records) (s .head .now + 1) (s .head .floor);
+      branchRows =
+          set (set (s .branchRows) (s .head .branches - 1)
+          (closedAt (s .head .now) (getD (s .branchRows) (s .head .branches - 1) zero-branch))) (s .head .branches)
+          (record { start = s .head .now + 1; end = open-end; cut = m });
+      recordRows = s .recordRows;
+      placeRows = s .placeRows;
+      slab = s .slab;
+    }
+
+unfoldable pub doRevert : Store → ℕ → Stepped
+doRevert s m =
+    cond (ltb m (s .head .floor)) (unchanged s 8)
+    (cond (leb (s .head .now) m) (unchanged s 9)
+    (cond (leb open-end (s .head .now)) (unchanged s 10)
+    (cond (leb (length (s .branchRows)) (s .head .branches)) (unchanged s 7)
+    (record { store = branched s m; answer = accepted (s .head .now) }))))
+
+-- read
+
+unfoldable pub doRead : Store → ℕ → ℕ → Stepped
+doRead s a m =
+    cond (ltb a (s .head .size))
+    (cond (ltb m (s .head .floor)) (unchanged s 8)
+    (cond (ltb (s .head .now) m) (unchanged s 9)
+    (record { store = s; answer = record { refusal = 0; value = m; page = foundPage (s .slab) (lookup s a m) } })))
+    (unchanged s 4)
+
+-- reclaim
+
+-- a place row after a reclaim: a kept record is named by one more than the kept ones before it; any other row is free
+abbrev pub renumbered : (Record → Bool) → List Record → ℕ → ℕ
+renumbered kept rs zero = 0
+renumbered kept rs (suc i) = cond (kept (getD rs i zero-record)) (suc (length (keep kept (take i rs)))) 0
+
+-- kept rows close up in order, vacated rows become zero, rows past the count stay
+abbrev pub closedUp : {A : Type 0} → A → List A → ℕ → List A → List A
+closedUp z kept count rows = kept ++ (replicate (count - length kept) z ++ drop count rows)
+
+-- the store with the floor set, and just these branches and the given records kept
+unfoldable pub reclaimed : Store → ℕ → List Branch → List Record → Store
+reclaimed s floor bs rs =
+    record {
+      head = headWith (s .head) (length bs) (length rs) (s .head .now) floor;
+      branchRows = closedUp zero-branch bs (s .head .branches) (s .branchRows);
+      recordRows = closedUp zero-record rs (s .head .records) (s .recordRows);
+      placeRows = map (renumbered (isGiven s floor) (records s)) (s .placeRows);
+      slab = s .slab;
+    }
+
+unfoldable pub doReclaim : Store → ℕ → Stepped
+doReclaim s m =
+    cond (ltb m (s .head .floor)) (unchanged s 8)
+    (cond (ltb (s .head .now) m) (unchanged s 9)
+    (let rs = keep (isGiven s m) (records s) in
+    record {
+      store = reclaimed s m (keep (isAncestor s m) (branches s)) rs;
+      answer = accepted (s .head .records - length rs);
+    }))
+
+unfoldable pub step : Store → Request → Stepped
+step s (write a page) = doWrite s a page
+step s mark = doMark s
+step s (revert m) = doRevert s m
+step s (readAt a m) = doRead s a m
+step s (reclaim m) = doReclaim s m

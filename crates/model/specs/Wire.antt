@@ -1,0 +1,116 @@
+-- Requests and answers as bytes.
+use Prim.Native.Nat.{ℕ, zero, suc, _+_, _*_, _/_, _%_, _^_}
+use mathlib.Core.List.{List, [], _∷_, _++_}
+use mathlib.Core.Option.{Option, some, none}
+use mathlib.Core.Bool.{cond, _&&_}
+use lib.Dec.{leb, eqb}
+use lib.ListN.{length, take, drop}
+use Rattle.model.specs.Store.{Page}
+
+-- the number that bytes spell after n, most significant first
+unfoldable pub number : ℕ → List ℕ → ℕ
+number n [] = n
+number n (b ∷ bs) = number (n * 256 + b) bs
+
+-- n as `count` bytes, most significant first
+unfoldable pub bytes : ℕ → ℕ → List ℕ
+bytes zero n = []
+bytes (suc count) n = n / 256 ^ count % 256 ∷ bytes count n
+
+-- a packed field: its value, and its width in bits
+pub record Field : Type 0 where
+  pub width : ℕ
+  pub value : ℕ
+
+-- packed fields, most significant first, behind the number n
+unfoldable pub packed : ℕ → List Field → ℕ
+packed n [] = n
+packed n (f ∷ fs) = packed (n * 2 ^ f .width + f .value) fs
+
+-- the field of `width` bits that has `below` bits under it
+abbrev pub field : ℕ → ℕ → ℕ → ℕ
+field n below width = n / 2 ^ below % 2 ^ width
+
+-- the five requests
+pub data Request : Type 0 where
+  write : ℕ → List ℕ → Request
+  mark : Request
+  revert : ℕ → Request
+  readAt : ℕ → ℕ → Request
+  reclaim : ℕ → Request
+
+-- the seven bytes of a request: operation 3 bits, address 16, moment 32, spare 5
+abbrev pub requestHead : ℕ → ℕ → ℕ → ℕ → List ℕ
+requestHead operation address moment spare =
+    bytes 7
+    (packed 0
+    (record { width = 3; value = operation } ∷ record { width = 16; value = address } ∷ record { width = 32; value = moment }
+    ∷ record { width = 5; value = spare } ∷ []))
+
+-- a request as it is sent: fields that an operation does not use are zero; a write's page follows
+unfoldable pub requestBytes : Request → List ℕ
+requestBytes (write a page) = requestHead 1 a 0 0 ++ page
+requestBytes mark = requestHead 2 0 0 0
+requestBytes (revert m) = requestHead 3 0 m 0
+requestBytes (readAt a m) = requestHead 4 a m 0
+requestBytes (reclaim m) = requestHead 5 0 m 0
+
+-- what is read at the front of an input: its end, a stop with its number, or a request with its length in bytes
+pub data Parsed : Type 0 where
+  end : Parsed
+  stop : ℕ → Parsed
+  one : Request → ℕ → Parsed
+
+-- a write's page, of what follows the seven bytes
+abbrev pub writeOf : ℕ → List ℕ → Parsed
+writeOf a rest = cond (leb 256 (length rest)) (one (write a (take 256 rest)) 263) (stop 11)
+
+-- the request of an operation, 12 where there is none; a field that it does not use counts as spare, 13 where one is set
+unfoldable pub byOperation : ℕ → ℕ → ℕ → ℕ → List ℕ → Parsed
+byOperation o a m spare rest =
+    cond (eqb o 1) (cond (eqb m 0 && eqb spare 0) (writeOf a rest) (stop 13))
+    (cond (eqb o 2) (cond (eqb a 0 && (eqb m 0 && eqb spare 0)) (one mark 7) (stop 13))
+    (cond (eqb o 3) (cond (eqb a 0 && eqb spare 0) (one (revert m) 7) (stop 13))
+    (cond (eqb o 4) (cond (eqb spare 0) (one (readAt a m) 7) (stop 13))
+    (cond (eqb o 5) (cond (eqb a 0 && eqb spare 0) (one (reclaim m) 7) (stop 13))
+    (stop 12)))))
+
+-- by the fields of the 56 bits
+abbrev pub ofWord : ℕ → List ℕ → Parsed
+ofWord w rest = byOperation (field w 53 3) (field w 37 16) (field w 5 32) (field w 0 5) rest
+
+-- the request at the front of an input; 11 where fewer than 7 bytes are left, but some
+unfoldable pub parse : List ℕ → Parsed
+parse [] = end
+parse (b ∷ bs) = cond (leb 7 (length (b ∷ bs))) (ofWord (number 0 (take 7 (b ∷ bs))) (drop 7 (b ∷ bs))) (stop 11)
+
+-- an answer: a refusal's number or 0, the number, and a read's page with the moment of its write
+pub record Answer : Type 0 where
+  pub refusal : ℕ
+  pub value : ℕ
+  pub page : Option Page
+
+-- a refusal has number 0
+abbrev pub refused : ℕ → Answer
+refused n = record { refusal = n; value = 0; page = none }
+
+abbrev pub accepted : ℕ → Answer
+accepted n = record { refusal = 0; value = n; page = none }
+
+-- page present
+abbrev pub present : Option Page → ℕ
+present (some p) = 1
+present none = 0
+
+abbrev pub pageBytes : Option Page → List ℕ
+pageBytes (some p) = p .bytes
+pageBytes none = []
+
+-- an answer as it is sent: refusal 6 bits, page present 1, spare 1, number 32; a present page's bytes follow
+unfoldable pub answerBytes : Answer → List ℕ
+answerBytes x =
+    bytes 5
+    (packed 0
+    (record { width = 6; value = x .refusal } ∷ record { width = 1; value = present (x .page) } ∷ record { width = 1; value = 0 }
+    ∷ record { width = 32; value = x .value } ∷ []))
+    ++ pageBytes (x .page)

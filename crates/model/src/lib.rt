@@ -1,0 +1,21 @@
+// The store's plain data.
+
+pub struct Branch {
+    pub start: u32,
+    pub end: u32,
+    pub cut: u32,
+}
+
+pub struct Record {
+    pub address: u32,
+    pub moment: u32,
+    pub place: u32,
+}
+
+pub struct Head {
+    pub size: u32,
+    pub branches: u32,
+    pub records: u32,
+    pub now: u32,
+    pub floor: u32,
+}
