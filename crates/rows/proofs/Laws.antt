@@ -1,0 +1,145 @@
+-- Laws of rows, once over the width and the kind of row; then the two kinds.
+use mathlib.Core.Path.{_≡_, refl, sym, ap, _∙_}
+use mathlib.Core.List.{List, [], _∷_}
+use Prim.Native.Nat.{ℕ, zero, suc, _+_, _*_, _/_, _%_, _≤_, _<_}
+use native.Mathlib.Nat.{add-zero, suc-mul, mul-le-mul-right, div-add-mod'}
+use lib.Dec.{ltb}
+use borrow.Author.Tests.{ltb-true, ltb-false}
+use Rattle.model.proofs.Base.{case}
+use native.Mathlib.Numerals.{towards-suc}
+use native.Mathlib.Omega.{arith}
+use lib.ListN.{length, getD, set, take, drop, length-drop, take-append-drop}
+use lib.Seq.{sets, length-sets, ext-getD, getD-take, getD-drop, length-take-le}
+use Rattle.model.specs.declared.Branch.{Branch}
+use Rattle.model.specs.declared.Record.{Record}
+use Rattle.model.specs.Store.{zero-branch, zero-record}
+use Rattle.rows.specs.Rows.{tab, rowAt, rowsBy, flat, branchOf, branchFields, branchRowsOf, recordOf, recordFields, recordRowsOf}
+use Rattle.rows.proofs.Tab.{length-tab, getD-tab, tab-ext, tab-set}
+use Rattle.rows.proofs.Runs.{sets-in, sets-out}
+
+-- a kind of row: its width, the row that w numbers make, and the numbers of a row
+pub record Kind (A : Type 0) : Type 0 where
+  pub width : ℕ
+  pub wide : 0 < width
+  pub make : (ℕ → ℕ) → A
+  pub fields : A → List ℕ
+  pub full : (x : A) → length (fields x) ≡ width
+  pub back : (x : A) → make (λ j. getD (fields x) j 0) ≡ x
+  pub column : (f : ℕ → ℕ) (j : ℕ) → j < width → getD (fields (make f)) j 0 ≡ f j
+  pub same : (f g : ℕ → ℕ) → ((j : ℕ) → j < width → f j ≡ g j) → make f ≡ make g
+
+-- a fact of each of three columns
+pub three : (P : ℕ → Type 0) → P 0 → P 1 → P 2 → (j : ℕ) → j < 3 → P j
+three P a b c zero h = a
+three P a b c (suc zero) h = b
+three P a b c (suc (suc zero)) h = c
+three P a b c (suc (suc (suc j))) h = absurd (omega arith)
+
+length-zero : (t : List ℕ) → length t ≡ 0 → t ≡ []
+length-zero [] e = refl
+length-zero (x ∷ t) e = absurd (omega arith)
+
+-- a number that lies in row i by its place, and in row k by its column, is of one row
+between-rows : (w k i j : ℕ) → j < w → i * w ≤ k * w + j → k * w + j < i * w + w → k ≡ i
+between-rows w k i j h a c =
+    case (ltb k i)
+    (λ e. absurd (omega (arith, suc-mul k w, mul-le-mul-right w (ltb-true k i e))))
+    (λ e.
+    case (ltb i k)
+    (λ d. absurd (omega (arith, suc-mul i w, mul-le-mul-right w (ltb-true i k d))))
+    (λ d. omega (arith, ltb-false k i e, ltb-false i k d)))
+
+module _ {A : Type 0} (K : Kind A) where
+  abbrev rows : List ℕ → List A
+  rows = rowsBy (K .width) (K .make)
+
+  pub rows-length : (t : List ℕ) → length (rows t) ≡ length t / K .width
+  unfolding rowsBy
+  rows-length t = length-tab (length t / K .width) (rowAt (K .width) (K .make) t)
+
+  pub rows-get : (t : List ℕ) (i : ℕ) (d : A) → i < length t / K .width → getD (rows t) i d ≡ rowAt (K .width) (K .make) t i
+  unfolding rowsBy
+  rows-get t i d h = getD-tab (length t / K .width) (rowAt (K .width) (K .make) t) i d h
+
+  -- the numbers of a row stored in its place: that row is set, and no other
+  pub rows-put : (t : List ℕ) (i : ℕ) (b : A) → i * K .width + K .width ≤ length t → rows (sets t (i * K .width) (K .fields b)) ≡ set (rows t) i b
+  unfolding rowsBy
+  rows-put t i b l =
+      let n : length (K .fields b) ≡ K .width = K .full b in
+      let u : List ℕ = sets t (i * K .width) (K .fields b) in
+      rw (length-sets t (i * K .width) (K .fields b))
+      (tab-set (length t / K .width) (rowAt (K .width) (K .make) t) (rowAt (K .width) (K .make) u) i b
+      (K .same _ _ (λ j h. sets-in (K .fields b) t (i * K .width) j (omega arith) (omega arith)) ∙ K .back b)
+      (λ k _ ne. K .same _ _ (λ j h. sets-out (K .fields b) t (i * K .width) (k * K .width + j) (λ a c. ne (between-rows (K .width) k i j h a (omega arith))))))
+
+  -- a table of whole rows is its rows laid flat
+  flat-tab : (n : ℕ) (t : List ℕ) → length t ≡ n * K .width → flat (K .fields) (tab n (rowAt (K .width) (K .make) t)) ≡ t
+  unfolding flat tab
+  flat-tab zero t l = sym (length-zero t (omega arith))
+  flat-tab (suc n) t l =
+      let w : ℕ = K .width in
+      let m : length t ≡ n * w + w = l ∙ suc-mul n w in
+      let first : K .fields (rowAt w (K .make) t 0) ≡ take w t =
+      ext-getD 0 _ _ (K .full _ ∙ sym (length-take-le w t (omega arith)))
+      (λ j h. let h′ : j < w = omega (arith, K .full (rowAt w (K .make) t 0)) in
+      K .column _ j h′ ∙ (ap (λ (x : ℕ). getD t x 0) (omega arith) ∙ sym (getD-take w t j 0 h′))) in
+      let rest : tab n (λ k. rowAt w (K .make) t (suc k)) ≡ tab n (rowAt w (K .make) (drop w t)) =
+      tab-ext n _ _ (λ k h. K .same _ _ (λ j i. ap (λ (x : ℕ). getD t x 0) (omega (arith, suc-mul k w)) ∙ sym (getD-drop w t (k * w + j) 0))) in
+      rw (first, rest, flat-tab n (drop w t) (omega (arith, length-drop w t))) (take-append-drop w t)
+
+  pub flat-rows : (t : List ℕ) → length t % K .width ≡ 0 → flat (K .fields) (rows t) ≡ t
+  unfolding rowsBy
+  flat-rows t e = flat-tab (length t / K .width) t (omega (arith, div-add-mod' (length t) (K .width)))
+
+-- rows of branches
+abbrev pub branch-kind : Kind Branch
+branch-kind =
+    record {
+      width = 3;
+      wide = omega arith;
+      make = branchOf;
+      fields = branchFields;
+      full = λ b. refl;
+      back = λ b. refl;
+      column = λ f. three (λ j. getD (branchFields (branchOf f)) j 0 ≡ f j) refl refl refl;
+      same = λ f g h k. record { start = h 0 (omega arith) k; end = h 1 (omega arith) k; cut = h 2 (omega arith) k };
+    }
+
+-- rows of records
+abbrev pub record-kind : Kind Record
+record-kind =
+    record {
+      width = 3;
+      wide = omega arith;
+      make = recordOf;
+      fields = recordFields;
+      full = λ r. refl;
+      back = λ r. refl;
+      column = λ f. three (λ j. getD (recordFields (recordOf f)) j 0 ≡ f j) refl refl refl;
+      same = λ f g h k. record { address = h 0 (omega arith) k; moment = h 1 (omega arith) k; place = h 2 (omega arith) k };
+    }
+
+-- how many rows a table has
+pub branch-count : (t : List ℕ) → length (branchRowsOf t) ≡ length t / 3
+branch-count t = rows-length branch-kind t
+
+pub record-count : (t : List ℕ) → length (recordRowsOf t) ≡ length t / 3
+record-count t = rows-length record-kind t
+
+-- a row read and a row stored, as the code does it
+module _ (t : List ℕ) (i : ℕ) (l : i * 3 + 2 < length t) where
+  pub branch-get : getD (branchRowsOf t) i zero-branch ≡ record { start = getD t (i * 3) 0; end = getD t (i * 3 + 1) 0; cut = getD t (i * 3 + 2) 0 }
+  branch-get = rows-get branch-kind t i zero-branch (omega arith) ∙ rw (add-zero (i * 3))
+
+  pub branch-put : (b : Branch) → branchRowsOf (set (set (set t (i * 3) (b .start)) (i * 3 + 1) (b .end)) (i * 3 + 2) (b .cut)) ≡ set (branchRowsOf t) i b
+  branch-put b =
+      let e : set (set (set t (i * 3) (b .start)) (i * 3 + 1) (b .end)) (i * 3 + 2) (b .cut) ≡ sets t (i * 3) (branchFields b) = simp towards-suc in
+      rw e (rows-put branch-kind t i b (omega arith))
+
+  pub record-get : getD (recordRowsOf t) i zero-record ≡ record { address = getD t (i * 3) 0; moment = getD t (i * 3 + 1) 0; place = getD t (i * 3 + 2) 0 }
+  record-get = rows-get record-kind t i zero-record (omega arith) ∙ rw (add-zero (i * 3))
+
+  pub record-put : (r : Record) → recordRowsOf (set (set (set t (i * 3) (r .address)) (i * 3 + 1) (r .moment)) (i * 3 + 2) (r .place)) ≡ set (recordRowsOf t) i r
+  record-put r =
+      let e : set (set (set t (i * 3) (r .address)) (i * 3 + 1) (r .moment)) (i * 3 + 2) (r .place) ≡ sets t (i * 3) (recordFields r) = simp towards-suc in
+      rw e (rows-put record-kind t i r (omega arith))
