@@ -19,7 +19,7 @@ use Rattle.model.proofs.Ancestry.{Chain, SoundRows}
 use Rattle.model.proofs.Places.{Named}
 use Rattle.model.proofs.Invariant.{Allowed, Sizes, Fits, Sound}
 
-chained→ : (floor : ℕ) (bs : List Branch) → chained floor bs ≡ true → Chain floor bs
+pub chained→ : (floor : ℕ) (bs : List Branch) → chained floor bs ≡ true → Chain floor bs
 unfolding chained
 chained→ floor [] e = absurd (false≢true e)
 chained→ floor (b ∷ []) e =
@@ -45,14 +45,14 @@ chained→ floor (b ∷ c ∷ bs) e =
       chained→ floor (c ∷ bs) (t .1),
     )
 
-open→ : (floor now : ℕ) (bs : List Branch) → (openRow now bs && chained floor bs) ≡ true → SoundRows floor now bs
+pub open→ : (floor now : ℕ) (bs : List Branch) → (openRow now bs && chained floor bs) ≡ true → SoundRows floor now bs
 open→ floor now [] e = absurd (false≢true e)
 open→ floor now (b ∷ bs) e =
     let p : ((eqb (b .end) open-end && leb (b .start) now) ≡ true) × (chained floor (b ∷ bs) ≡ true) = and→ _ _ e in
     let q : (eqb (b .end) open-end ≡ true) × (leb (b .start) now ≡ true) = and→ _ _ (p .0) in
     (record { still = eqb-true _ _ (q .0); begun = leb-true _ _ (q .1) }, chained→ floor (b ∷ bs) (p .1))
 
-ascending→ : (rs : List Record) → ascending rs ≡ true → Asc rs
+pub ascending→ : (rs : List Record) → ascending rs ≡ true → Asc rs
 unfolding ascending
 ascending→ [] e = tt
 ascending→ (r ∷ []) e = (λ q m. absurd m, tt)
@@ -61,13 +61,13 @@ ascending→ (r ∷ q ∷ rs) e =
     let ih : Asc (q ∷ rs) = ascending→ (q ∷ rs) (p .1) in
     (λ x m. elim m [ inl d ↦ rw d (p .0) | inr n ↦ precedes-trans r q x (p .0) (ih .0 x n) ], ih)
 
-record PlacedRow (s : Store) (i : ℕ) (r : Record) (rs : List Record) : Type 0 where
-  fits : Fits (s .head .size) (s .head .now) (newest s) r
-  inside : ltb (r .place) (length (s .placeRows)) ≡ true
-  named : eqb (getD (s .placeRows) (r .place) 0) i ≡ true
-  rest : placed s (suc i) rs ≡ true
+pub record PlacedRow (s : Store) (i : ℕ) (r : Record) (rs : List Record) : Type 0 where
+  pub fits : Fits (s .head .size) (s .head .now) (newest s) r
+  pub inside : ltb (r .place) (length (s .placeRows)) ≡ true
+  pub named : eqb (getD (s .placeRows) (r .place) 0) i ≡ true
+  pub rest : placed s (suc i) rs ≡ true
 
-placed-row : (s : Store) (i : ℕ) (r : Record) (rs : List Record) → placed s i (r ∷ rs) ≡ true → PlacedRow s i r rs
+pub placed-row : (s : Store) (i : ℕ) (r : Record) (rs : List Record) → placed s i (r ∷ rs) ≡ true → PlacedRow s i r rs
 unfolding placed
 placed-row s i r rs e =
     let a : (ltb (r .address) (s .head .size) ≡ true) × (_ ≡ true) = and→ _ _ e in
@@ -82,17 +82,17 @@ placed-row s i r rs e =
       rest = f .1;
     }
 
-placed→named : (s : Store) (i : ℕ) (rs : List Record) → placed s i rs ≡ true → Named (s .placeRows) i rs
+pub placed→named : (s : Store) (i : ℕ) (rs : List Record) → placed s i rs ≡ true → Named (s .placeRows) i rs
 placed→named s i [] e = tt
 placed→named s i (r ∷ rs) e =
     let p : PlacedRow s i r rs = placed-row s i r rs e in
     (ltb-true _ _ (p .inside), eqb-true _ _ (p .named), placed→named s (suc i) rs (p .rest))
 
-placed→fits : (s : Store) (i : ℕ) (rs : List Record) → placed s i rs ≡ true → (r : Record) → r ∈ rs → Fits (s .head .size) (s .head .now) (newest s) r
+pub placed→fits : (s : Store) (i : ℕ) (rs : List Record) → placed s i rs ≡ true → (r : Record) → r ∈ rs → Fits (s .head .size) (s .head .now) (newest s) r
 placed→fits s i (q ∷ rs) e r (inl d) = rw d (placed-row s i q rs e .fits)
 placed→fits s i (q ∷ rs) e r (inr m) = placed→fits s (suc i) rs (placed-row s i q rs e .rest) r m
 
-between→ : (lo hi n : ℕ) → between lo hi n ≡ true → (lo ≤ n) × (n ≤ hi)
+pub between→ : (lo hi n : ℕ) → between lo hi n ≡ true → (lo ≤ n) × (n ≤ hi)
 between→ lo hi n e =
     let p : (leb lo n ≡ true) × (leb n hi ≡ true) = and→ _ _ e in
     (leb-true _ _ (p .0), leb-true _ _ (p .1))
@@ -116,7 +116,7 @@ sizes→ size nb nr np ns e =
       slab = eqb-true _ _ (d .1);
     }
 
-inRange→ : (s : Store) → s .head .now ≤ open-end → inRange s ≡ true → Sizes s
+pub inRange→ : (s : Store) → s .head .now ≤ open-end → inRange s ≡ true → Sizes s
 unfolding inRange
 inRange→ s n e =
     let f : (sizesAllowed (s .head .size) (length (s .branchRows)) (length (s .recordRows)) (length (s .placeRows)) (length (s .slab)) ≡ true) × (_ ≡ true) = and→ _ _ e in
@@ -131,12 +131,12 @@ inRange→ s n e =
       now-high = n;
     }
 
-record Checks (s : Store) : Type 0 where
-  ranges : inRange s ≡ true
-  rows : branchesSound s ≡ true
-  tables : recordsSound s ≡ true
+pub record Checks (s : Store) : Type 0 where
+  pub ranges : inRange s ≡ true
+  pub rows : branchesSound s ≡ true
+  pub tables : recordsSound s ≡ true
 
-checks : (s : Store) → tableCheck s ≡ 0 → Checks s
+pub checks : (s : Store) → tableCheck s ≡ 0 → Checks s
 unfolding tableCheck
 checks s e =
     case (inRange s)

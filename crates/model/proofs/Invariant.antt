@@ -53,7 +53,7 @@ pub record Sound (s : Store) : Type 0 where
   pub in-use : used (s .placeRows) ≡ s .head .records
 
 -- such a store passes the table checks
-→chained : (floor : ℕ) (bs : List Branch) → Chain floor bs → chained floor bs ≡ true
+pub →chained : (floor : ℕ) (bs : List Branch) → Chain floor bs → chained floor bs ≡ true
 unfolding chained
 →chained floor [] h = absurd h
 →chained floor (b ∷ []) h = →and (eq-eqb (b .start) 0 (h .start)) (→and (eq-eqb (b .cut) 0 (h .cut)) (le-leb (b .start) (b .end) (h .ordered)))
@@ -69,7 +69,7 @@ unfolding chained
         (λ e. →or₂ (eqb (b .start) (c .end + 1)) e)
         (λ e. rw (eq-eqb (b .start) (c .end + 1) (l .follows (leb-false (b .start) floor e))))
 
-→open : (floor now : ℕ) (bs : List Branch) → SoundRows floor now bs → (openRow now bs && chained floor bs) ≡ true
+pub →open : (floor now : ℕ) (bs : List Branch) → SoundRows floor now bs → (openRow now bs && chained floor bs) ≡ true
 →open floor now [] h = absurd h
 →open floor now (b ∷ bs) h =
     →and (→and (eq-eqb (b .end) open-end (h .0 .still)) (le-leb (b .start) now (h .0 .begun))) (→chained floor (b ∷ bs) (h .1))
@@ -80,7 +80,7 @@ unfolding ascending
 →ascending (r ∷ []) h = refl
 →ascending (r ∷ q ∷ rs) h = →and (h .0 q (inl refl)) (→ascending (q ∷ rs) (h .1))
 
-→placed : (s : Store) (i : ℕ) (rs : List Record) → ((r : Record) → r ∈ rs → Fits (s .head .size) (s .head .now) (newest s) r)
+pub →placed : (s : Store) (i : ℕ) (rs : List Record) → ((r : Record) → r ∈ rs → Fits (s .head .size) (s .head .now) (newest s) r)
     → Named (s .placeRows) i rs → placed s i rs ≡ true
 unfolding placed
 →placed s i [] f n = refl
@@ -92,7 +92,7 @@ unfolding placed
     (→and (lt-ltb (r .place) (length (s .placeRows)) (n .0))
     (→and (eq-eqb (getD (s .placeRows) (r .place) 0) i (n .1)) (→placed s (suc i) rs (λ q m. f q (inr m)) (n .2))))))
 
-→between : (lo hi n : ℕ) → lo ≤ n → n ≤ hi → between lo hi n ≡ true
+pub →between : (lo hi n : ℕ) → lo ≤ n → n ≤ hi → between lo hi n ≡ true
 →between lo hi n l h = →and (le-leb lo n l) (le-leb n hi h)
 
 pub →sizes : (size nb nr np ns : ℕ) → Allowed size nb nr np ns → sizesAllowed size nb nr np ns ≡ true
@@ -103,7 +103,7 @@ unfolding sizesAllowed
     (→and (→between 1 65536 nr (z .records-low) (z .records-high))
     (→and (→between 1 65536 np (z .places-low) (z .places-high)) (eq-eqb ns (256 * np) (z .slab)))))
 
-→inRange : (s : Store) → Sizes s → inRange s ≡ true
+pub →inRange : (s : Store) → Sizes s → inRange s ≡ true
 unfolding inRange
 →inRange s z =
     →and (→sizes _ _ _ _ _ (z .allowed))

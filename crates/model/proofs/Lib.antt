@@ -11,6 +11,7 @@ pub mod Writing
 pub mod Reclaiming
 pub mod Reading
 pub mod Candidates
+pub mod ByNumber
 pub mod Packing
 pub mod RoundTrip
 pub mod Parsing

@@ -103,15 +103,15 @@ named-set ps p v i (r ∷ rs) h n =
     (rw le (n .0), getD-set-other ps p (r .place) v 0 ne ∙ n .1, named-set ps p v (suc i) rs (omega arith) (n .2))
 
 -- the rows of all these records freed
-abbrev clear : List Record → List ℕ → List ℕ
+abbrev pub clear : List Record → List ℕ → List ℕ
 clear [] ps = ps
 clear (r ∷ rs) ps = clear rs (set ps (r .place) 0)
 
-abbrev Agree : (ℕ → Bool) → (Record → Bool) → ℕ → List Record → Type 0
+abbrev pub Agree : (ℕ → Bool) → (Record → Bool) → ℕ → List Record → Type 0
 Agree f g i [] = Unit {0}
 Agree f g i (r ∷ rs) = (f i ≡ g r) × Agree f g (suc i) rs
 
-count-clear : (f : ℕ → Bool) (g : Record → Bool) (i : ℕ) (rs : List Record) (ps : List ℕ) → f 0 ≡ false → Named ps i rs → Agree f g i rs
+pub count-clear : (f : ℕ → Bool) (g : Record → Bool) (i : ℕ) (rs : List Record) (ps : List ℕ) → f 0 ≡ false → Named ps i rs → Agree f g i rs
     → count f ps ≡ count g rs + count f (clear rs ps)
 unfolding keep
 count-clear f g i [] ps z n a = omega arith
@@ -210,10 +210,10 @@ firstFree→ (suc k ∷ ps) p e =
     let ih : (q < length ps) × (getD ps q 0 ≡ 0) = firstFree→ ps q s in
     rw (← z) (omega arith, ih .1))
 
-shifted-low : (at k : ℕ) → k ≤ at → shifted at k ≡ k
+pub shifted-low : (at k : ℕ) → k ≤ at → shifted at k ≡ k
 shifted-low at k h = rw (le-leb k at h)
 
-shifted-high : (at k : ℕ) → at < k → shifted at k ≡ suc k
+pub shifted-high : (at k : ℕ) → at < k → shifted at k ≡ suc k
 shifted-high at k h = rw (lt-leb k at h)
 
 shifted-used : (at k : ℕ) → inUse (shifted at k) ≡ inUse k
