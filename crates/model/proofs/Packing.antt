@@ -1,9 +1,9 @@
 -- Numbers as bytes and packed fields, for any width.
-use Prim.Native.Nat.{ℕ, zero, suc, _+_, _*_, _/_, _%_, _^_, _≤_, _<_}
+use Prim.Native.Nat.{ℕ, zero, suc, _+_, _*_, _-_, _/_, _%_, _^_, _≤_, _<_}
 use mathlib.Core.Path.{_≡_, refl, sym, ap, _∙_}
 use mathlib.Core.List.{List, [], _∷_, _++_}
 use native.Mathlib.Omega.{arith}
-use native.Mathlib.Nat.{add-mul, suc-mul, mul-assoc, mul-comm, mul-le-mul-right, mod-lt, mod-one, mod-eq-of-lt, div-add-mod', add-mul-mod-self-right, mul-add-mod-self-right, mul-add-div-right, div-eq-of-lt, pow-suc}
+use native.Mathlib.Nat.{add-mul, suc-mul, mul-assoc, mul-comm, mul-le-mul-right, mod-lt, mod-one, mod-eq-of-lt, div-add-mod', add-mul-mod-self-right, mul-add-mod-self-right, mul-add-div-right, div-div-eq-div-mul, div-eq-of-lt, pow-suc}
 use lib.Pow.{pow-pos, pow-add}
 use lib.ListN.{length}
 use Rattle.model.specs.Wire.{number, bytes, Field, packed, field}
@@ -102,3 +102,44 @@ field-read n xs f ys h =
     ap (λ (x : ℕ). x / 2 ^ bits ys % 2 ^ f .width) (packed-append n xs (f ∷ ys))
     ∙ (ap (λ (x : ℕ). x % 2 ^ f .width) (packed-div (packed n xs * 2 ^ f .width + f .value) ys (h .1))
     ∙ (mul-add-mod-self-right (packed n xs) (2 ^ f .width) (f .value) ∙ mod-eq-of-lt (h .0)))
+
+-- what stands above fields that fit is read above them
+pub field-above : (n : ℕ) (fs : List Field) (k w : ℕ) → Fit fs → field (packed n fs) (bits fs + k) w ≡ field n k w
+field-above n fs k w h =
+    let e : packed n fs / 2 ^ (bits fs + k) ≡ n / 2 ^ k =
+    ap (λ (x : ℕ). packed n fs / x) (pow-add 2 (bits fs) k)
+    ∙ (sym (div-div-eq-div-mul (packed n fs) (2 ^ bits fs) (2 ^ k)) ∙ ap (λ (x : ℕ). x / 2 ^ k) (packed-div n fs h)) in
+    ap (λ (x : ℕ). x % 2 ^ w) e
+
+-- a field within the last fields does not depend on what stands above them
+pub field-below : (n : ℕ) (fs : List Field) (k w : ℕ) → k + w ≤ bits fs → field (packed n fs) k w ≡ field (packed 0 fs) k w
+field-below n fs k w l =
+    let r : ℕ = bits fs - (k + w) in
+    let b : bits fs ≡ r + w + k = omega arith in
+    let p : 2 ^ bits fs ≡ 2 ^ r * 2 ^ w * 2 ^ k = ap (λ (x : ℕ). 2 ^ x) b ∙ (pow-add 2 (r + w) k ∙ ap (λ (x : ℕ). x * 2 ^ k) (pow-add 2 r w)) in
+    let m : n * 2 ^ bits fs ≡ n * 2 ^ r * 2 ^ w * 2 ^ k =
+    ap (λ (x : ℕ). n * x) p ∙ (sym (mul-assoc n (2 ^ r * 2 ^ w) (2 ^ k)) ∙ ap (λ (x : ℕ). x * 2 ^ k) (sym (mul-assoc n (2 ^ r) (2 ^ w)))) in
+    let e : packed n fs / 2 ^ k ≡ n * 2 ^ r * 2 ^ w + packed 0 fs / 2 ^ k =
+    ap (λ (x : ℕ). x / 2 ^ k) (packed-above n fs ∙ ap (λ (x : ℕ). x + packed 0 fs) m)
+    ∙ mul-add-div-right (pow-pos k) (n * 2 ^ r * 2 ^ w) (packed 0 fs) in
+    ap (λ (x : ℕ). x % 2 ^ w) e ∙ mul-add-mod-self-right (n * 2 ^ r) (2 ^ w) (packed 0 fs / 2 ^ k)
+
+-- another value in one field leaves the fields beside it untouched: those above, and those below
+module _ (n : ℕ) (xs : List Field) (f g : Field) (ys : List Field) (k w : ℕ) where
+  pub beside-above : f .width ≡ g .width → Fit (f ∷ ys) → Fit (g ∷ ys)
+      → field (packed n (xs ++ (f ∷ ys))) (bits (f ∷ ys) + k) w ≡ field (packed n (xs ++ (g ∷ ys))) (bits (f ∷ ys) + k) w
+  beside-above e hf hg =
+      let b : bits (f ∷ ys) + k ≡ bits (g ∷ ys) + k = ap (λ (x : ℕ). x + bits ys + k) e in
+      ap (λ (x : ℕ). field x (bits (f ∷ ys) + k) w) (packed-append n xs (f ∷ ys))
+      ∙ (field-above (packed n xs) (f ∷ ys) k w hf
+      ∙ (sym (field-above (packed n xs) (g ∷ ys) k w hg)
+      ∙ (ap (λ (x : ℕ). field x (bits (g ∷ ys) + k) w) (sym (packed-append n xs (g ∷ ys)))
+      ∙ ap (λ (x : ℕ). field (packed n (xs ++ (g ∷ ys))) x w) (sym b))))
+
+  pub beside-below : k + w ≤ bits ys → field (packed n (xs ++ (f ∷ ys))) k w ≡ field (packed n (xs ++ (g ∷ ys))) k w
+  unfolding packed
+  beside-below l =
+      ap (λ (x : ℕ). field x k w) (packed-append n xs (f ∷ ys))
+      ∙ (field-below (packed n xs * 2 ^ f .width + f .value) ys k w l
+      ∙ (sym (field-below (packed n xs * 2 ^ g .width + g .value) ys k w l)
+      ∙ ap (λ (x : ℕ). field x k w) (sym (packed-append n xs (g ∷ ys)))))

@@ -7,3 +7,5 @@ pub mod Fresh
 pub mod Batch
 pub mod Reference
 pub mod Demand3
+pub mod Session
+pub mod Refusals
