@@ -1,19 +1,19 @@
 -- Laws of rows, once over the width and the kind of row; then the two kinds.
-use mathlib.Core.Path.{_≡_, refl, sym, ap, _∙_}
-use mathlib.Core.List.{List, [], _∷_}
+use mathlib.Core.Path.{_≡_, refl, sym, ap, ap₂, _∙_}
+use mathlib.Core.List.{List, [], _∷_, _++_}
 use Prim.Native.Nat.{ℕ, zero, suc, _+_, _*_, _/_, _%_, _≤_, _<_}
-use native.Mathlib.Nat.{add-zero, suc-mul, mul-le-mul-right, div-add-mod'}
+use native.Mathlib.Nat.{add-zero, suc-mul, zero-mul, mul-le-mul-right, div-mul-le-self, div-add-mod'}
 use lib.Dec.{ltb}
 use borrow.Author.Tests.{ltb-true, ltb-false}
 use Rattle.model.proofs.Base.{case}
 use native.Mathlib.Numerals.{towards-suc}
 use native.Mathlib.Omega.{arith}
-use lib.ListN.{length, getD, set, take, drop, length-drop, take-append-drop}
-use lib.Seq.{sets, length-sets, ext-getD, getD-take, getD-drop, length-take-le}
+use lib.ListN.{length, getD, set, take, drop, length-drop, take-append-drop, drop-of-length-le, replicate, length-replicate}
+use lib.Seq.{sets, length-sets, ext-getD, getD-take, getD-drop, length-take-le, take-add}
 use Rattle.model.specs.declared.Branch.{Branch}
 use Rattle.model.specs.declared.Record.{Record}
 use Rattle.model.specs.Store.{zero-branch, zero-record}
-use Rattle.rows.specs.Rows.{tab, rowAt, rowsBy, flat, branchOf, branchFields, branchRowsOf, recordOf, recordFields, recordRowsOf}
+use Rattle.rows.specs.Rows.{tab, rowAt, rowsBy, flat, relaid, branchOf, branchFields, branchRowsOf, recordOf, recordFields, recordRowsOf}
 use Rattle.rows.proofs.Tab.{length-tab, getD-tab, tab-ext, tab-set}
 use Rattle.rows.proofs.Runs.{sets-in, sets-out}
 
@@ -35,9 +35,15 @@ three P a b c (suc zero) h = b
 three P a b c (suc (suc zero)) h = c
 three P a b c (suc (suc (suc j))) h = absurd (omega arith)
 
-length-zero : (t : List ℕ) → length t ≡ 0 → t ≡ []
-length-zero [] e = refl
-length-zero (x ∷ t) e = absurd (omega arith)
+getD-replicate : (n i : ℕ) → getD {A = ℕ} (replicate n 0) i 0 ≡ 0
+getD-replicate zero i = refl
+getD-replicate (suc n) zero = refl
+getD-replicate (suc n) (suc i) = getD-replicate n i
+
+zero-tab : {A : Type 0} (n : ℕ) (f : ℕ → A) (z : A) → ((k : ℕ) → k < n → f k ≡ z) → tab n f ≡ replicate n z
+unfolding tab
+zero-tab {A = A} zero f z h = refl
+zero-tab {A = A} (suc n) f z h = ap₂ (λ (x : A) (l : List A). x ∷ l) (h 0 (omega arith)) (zero-tab n (λ k. f (suc k)) z (λ k l. h (suc k) (omega arith)))
 
 -- a number that lies in row i by its place, and in row k by its column, is of one row
 between-rows : (w k i j : ℕ) → j < w → i * w ≤ k * w + j → k * w + j < i * w + w → k ≡ i
@@ -72,24 +78,39 @@ module _ {A : Type 0} (K : Kind A) where
       (K .same _ _ (λ j h. sets-in (K .fields b) t (i * K .width) j (omega arith) (omega arith)) ∙ K .back b)
       (λ k _ ne. K .same _ _ (λ j h. sets-out (K .fields b) t (i * K .width) (k * K .width + j) (λ a c. ne (between-rows (K .width) k i j h a (omega arith))))))
 
-  -- a table of whole rows is its rows laid flat
-  flat-tab : (n : ℕ) (t : List ℕ) → length t ≡ n * K .width → flat (K .fields) (tab n (rowAt (K .width) (K .make) t)) ≡ t
+  -- the rows of a table laid flat are its numbers up to the last whole row
+  flat-tab : (n : ℕ) (t : List ℕ) → n * K .width ≤ length t → flat (K .fields) (tab n (rowAt (K .width) (K .make) t)) ≡ take (n * K .width) t
   unfolding flat tab
-  flat-tab zero t l = sym (length-zero t (omega arith))
+  flat-tab zero t l = rw (zero-mul (K .width))
   flat-tab (suc n) t l =
       let w : ℕ = K .width in
-      let m : length t ≡ n * w + w = l ∙ suc-mul n w in
+      let m : suc n * w ≡ w + n * w = suc-mul n w ∙ omega arith in
       let first : K .fields (rowAt w (K .make) t 0) ≡ take w t =
       ext-getD 0 _ _ (K .full _ ∙ sym (length-take-le w t (omega arith)))
-      (λ j h. let h′ : j < w = omega (arith, K .full (rowAt w (K .make) t 0)) in
+      (λ j h.
+      let h′ : j < w = omega (arith, K .full (rowAt w (K .make) t 0)) in
       K .column _ j h′ ∙ (ap (λ (x : ℕ). getD t x 0) (omega arith) ∙ sym (getD-take w t j 0 h′))) in
       let rest : tab n (λ k. rowAt w (K .make) t (suc k)) ≡ tab n (rowAt w (K .make) (drop w t)) =
-      tab-ext n _ _ (λ k h. K .same _ _ (λ j i. ap (λ (x : ℕ). getD t x 0) (omega (arith, suc-mul k w)) ∙ sym (getD-drop w t (k * w + j) 0))) in
-      rw (first, rest, flat-tab n (drop w t) (omega (arith, length-drop w t))) (take-append-drop w t)
+      tab-ext n _ _
+      (λ k h. K .same _ _ (λ j i. ap (λ (x : ℕ). getD t x 0) (omega (arith, suc-mul k w)) ∙ sym (getD-drop w t (k * w + j) 0))) in
+      rw (first, rest, flat-tab n (drop w t) (omega (arith, length-drop w t)), m) (sym (take-add w (n * w) t))
 
-  pub flat-rows : (t : List ℕ) → length t % K .width ≡ 0 → flat (K .fields) (rows t) ≡ t
+  -- a table's own rows laid over it change nothing
+  pub relaid-own : (t : List ℕ) → relaid (K .width) (K .fields) (rows t) t ≡ t
   unfolding rowsBy
-  flat-rows t e = flat-tab (length t / K .width) t (omega (arith, div-add-mod' (length t) (K .width)))
+  relaid-own t =
+      let l : length t / K .width * K .width ≤ length t = div-mul-le-self (length t) (K .width) in
+      rw (flat-tab (length t / K .width) t l) (take-append-drop (length t / K .width * K .width) t)
+
+  -- a table of whole rows that has these rows is any table of that length with them laid over it
+  pub relaid-rows : (t u : List ℕ) (xs : List A) → length u ≡ length t → length t % K .width ≡ 0 → rows u ≡ xs → u ≡ relaid (K .width) (K .fields) xs t
+  relaid-rows t u xs l e h =
+      let whole : (v : List ℕ) → length v ≡ length t → drop (length v / K .width * K .width) v ≡ [] =
+      λ v m.
+      let long : length v ≤ length v / K .width * K .width =
+      omega (arith, div-add-mod' (length t) (K .width), ap (λ (x : ℕ). x / K .width * K .width) m) in
+      drop-of-length-le v long in
+      sym (relaid-own u) ∙ rw (h, whole u l, whole t refl)
 
 -- rows of branches
 abbrev pub branch-kind : Kind Branch
@@ -143,3 +164,10 @@ module _ (t : List ℕ) (i : ℕ) (l : i * 3 + 2 < length t) where
   record-put r =
       let e : set (set (set t (i * 3) (r .address)) (i * 3 + 1) (r .moment)) (i * 3 + 2) (r .place) ≡ sets t (i * 3) (recordFields r) = simp towards-suc in
       rw e (rows-put record-kind t i r (omega arith))
+
+-- a table of zeros has zero rows
+pub zero-rows : {A : Type 0} (K : Kind A) (z : A) → K .make (λ j. 0) ≡ z → (n : ℕ) → rowsBy (K .width) (K .make) (replicate n 0) ≡ replicate (n / K .width) z
+unfolding rowsBy
+zero-rows K z e n =
+    let l : length {A = ℕ} (replicate n 0) ≡ n = length-replicate n 0 in
+    rw l (zero-tab (n / K .width) (rowAt (K .width) (K .make) (replicate n 0)) z (λ k h. K .same _ _ (λ j i. getD-replicate n (k * K .width + j)) ∙ e))

@@ -1,7 +1,7 @@
 -- A flat table of numbers seen as rows of any width, and the rows of branches and of records.
 use mathlib.Core.List.{List, [], _∷_, _++_}
 use Prim.Native.Nat.{ℕ, zero, suc, _+_, _*_, _/_}
-use lib.ListN.{length, getD}
+use lib.ListN.{length, getD, drop}
 use Rattle.model.specs.declared.Branch.{Branch}
 use Rattle.model.specs.declared.Record.{Record}
 
@@ -22,6 +22,10 @@ rowsBy w make t = tab (length t / w) (rowAt w make t)
 unfoldable pub flat : {A : Type 0} → (A → List ℕ) → List A → List ℕ
 flat fields [] = []
 flat fields (x ∷ xs) = fields x ++ flat fields xs
+
+-- a table with these rows laid over its whole rows; numbers past the last whole row stay
+abbrev pub relaid : {A : Type 0} → ℕ → (A → List ℕ) → List A → List ℕ → List ℕ
+relaid w fields xs old = flat fields xs ++ drop (length old / w * w) old
 
 -- a branch row: start, end, cut
 abbrev pub branchWidth : ℕ
@@ -48,3 +52,10 @@ recordFields r = r .address ∷ r .moment ∷ r .place ∷ []
 
 abbrev pub recordRowsOf : List ℕ → List Record
 recordRowsOf = rowsBy recordWidth recordOf
+
+-- the branch table, and the record table, with these rows
+abbrev pub branchTable : List Branch → List ℕ → List ℕ
+branchTable = relaid branchWidth branchFields
+
+abbrev pub recordTable : List Record → List ℕ → List ℕ
+recordTable = relaid recordWidth recordFields
