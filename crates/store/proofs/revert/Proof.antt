@@ -1,0 +1,92 @@
+use mathlib.Core.Path.{refl}
+use native.Mathlib.Omega.{arith}
+use denote.Ref.{now}
+use Rattle.store.proofs.Laws.{Growing, revert-kept, revert-grows, revert-done}
+use borrow.Author.Needs.{needs}
+use Rattle.store.proofs.revert.Statement.{statement}
+use Rattle.store.proofs.revert.Tie as tie
+use Rattle.rows.proofs.branch_at.Reads as branch-at-reads
+use Rattle.rows.proofs.set_branch.Reads as set-branch-reads
+use Rattle.store.proofs.accepted.Reads as accepted-reads
+use Rattle.store.proofs.refused.Reads as refused-reads
+use Rattle.store.proofs.revert_refusal.Reads as revert-refusal-reads
+
+revert-refusal-requires : tie.Need-revert-refusal-requires
+revert-refusal-requires c κs = search needs
+
+refused-requires : tie.Need-refused-requires
+refused-requires c κs = search needs
+
+returns : tie.Need-returns
+returns c =
+    let g = c .before .before in
+    let s = g .before .before in
+    revert-kept (s .args .head) (now (s .args .bt)) (s .args .m) (g .revert-refusal .result) _ refl (g .revert-refusal .ensures) (c .refused .result) (c .refused .ensures) (c .before .if1 .taken)
+
+grows : (c : tie.Else1) → Growing (c .before .before .before .args .head) (now (c .before .before .before .args .bt))
+grows c =
+    let g = c .before in
+    let s = g .before .before in
+    revert-grows (s .args .head) (now (s .args .bt)) (s .args .m) (g .revert-refusal .result) _ refl (g .revert-refusal .ensures) (c .if1 .left)
+
+add-next : tie.Need-add-next
+add-next c = omega (arith, grows c .later)
+
+cast-n : tie.Need-cast-n
+cast-n c = search needs
+
+sub-branch-at : tie.Need-sub-branch-at
+sub-branch-at c = search needs
+
+branch-at-requires : tie.Need-branch-at-requires
+branch-at-requires c κs = search needs
+
+sub-set-branch : tie.Need-sub-set-branch
+sub-set-branch c = search needs
+
+set-branch-requires : tie.Need-set-branch-requires
+set-branch-requires c κs = search needs
+
+set-branch-requires-2 : tie.Need-set-branch-requires-2
+set-branch-requires-2 c κs =
+    let e = c .before .before .before .before .before .before .before .before in
+    omega (arith, grows e .room, c .before .before .before .set-branch .ensures .1)
+
+add-t22 : tie.Need-add-t22
+add-t22 c = search needs
+
+accepted-requires : tie.Need-accepted-requires
+accepted-requires c κs = search needs
+
+same-length : tie.Need-same-length
+same-length c = search needs
+
+returns-2 : tie.Need-returns-2
+returns-2 c =
+    let b2 = c .before .before .before .before in
+    let b1 = b2 .before .before .before .before in
+    let i = b1 .before .before in
+    let e = i .before .before .before in
+    let g = e .before in
+    let s = g .before .before in
+    revert-done (s .args .head) (now (s .args .bt)) (s .args .m) (g .revert-refusal .result) _ refl (g .revert-refusal .ensures) (e .if1 .left) (c .accepted .result) _ _ (i .branch-at .result) (c .accepted .ensures)
+    (i .branch-at .ensures) (b1 .set-branch .ensures .0) (b2 .set-branch2 .ensures .0)
+
+pub revert-spec : {M : Type 1} → statement M
+revert-spec =
+    tie.close
+    (tie.spec
+    revert-refusal-requires
+    refused-requires
+    returns
+    add-next
+    cast-n
+    sub-branch-at
+    branch-at-requires
+    sub-set-branch
+    set-branch-requires
+    set-branch-requires-2
+    add-t22
+    accepted-requires
+    same-length
+    returns-2)

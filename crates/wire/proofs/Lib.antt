@@ -1,0 +1,4 @@
+pub mod Requests
+pub mod Packed
+pub mod Front
+pub mod Answers

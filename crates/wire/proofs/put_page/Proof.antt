@@ -1,0 +1,60 @@
+use Prim.Native.Nat.{_+_, _*_, _-_}
+use mathlib.Core.Path.{_≡_}
+use native.Mathlib.Omega.{arith}
+use Rattle.model.specs.Store.{pageAt}
+use borrow.Author.Needs.{needs}
+use Rattle.wire.proofs.put_page.Statement.{statement}
+use Rattle.wire.proofs.put_page.Tie as tie
+use Rattle.wire.proofs.put_page.Reads as reads
+use Rattle.wire.proofs.put_page.Lts as lts
+use Rattle.wire.proofs.copy.Reads as copy-reads
+
+-- src/lib.rt:146:14
+mul-at : tie.Need-mul-at
+mul-at c = search needs
+
+-- src/lib.rt:147:25
+add-copy : tie.Need-add-copy
+add-copy c = search needs
+
+-- src/lib.rt:147:15
+sub-copy : tie.Need-sub-copy
+sub-copy c = search needs
+
+-- src/lib.rt:147:15
+part-copy-start : tie.Need-part-copy-start
+part-copy-start c = search needs
+
+-- src/lib.rt:147:15
+part-copy-end : tie.Need-part-copy-end
+part-copy-end c = search needs
+
+-- src/lib.rt:147:5
+copy-requires : tie.Need-copy-requires
+copy-requires c κs = search needs
+
+-- src/lib.rt:142:1
+same-length : tie.Need-same-length
+same-length c = search needs
+
+-- src/lib.rt:142:1
+returns : tie.Need-returns
+unfolding pageAt
+returns c =
+    let s = c .before .before .before .before .before .before .before in
+    let at : s .args .place * 256 ≡ 256 * s .args .place = omega arith in
+    let n : 256 * s .args .place + 256 - 256 * s .args .place ≡ 256 = omega arith in
+    rw (at, n) at (c .before .before .copy .ensures)
+
+pub put-page-spec : {M : Type 1} → statement M
+put-page-spec =
+    tie.close
+    (tie.spec
+    mul-at
+    add-copy
+    sub-copy
+    part-copy-start
+    part-copy-end
+    copy-requires
+    same-length
+    returns)

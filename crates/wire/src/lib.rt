@@ -1,0 +1,178 @@
+// Requests and answers as bytes: the request reader and the answer writer.
+use rows::Found;
+use rows::Outcome;
+ghost use mathlib.Core.Path.{_≡_};
+ghost use mathlib.Core.Bool.{cond};
+ghost use mathlib.Core.List.{List};
+ghost use lib.Dec.{eqb, leb};
+ghost use Prim.Native.Nat.{ℕ, _+_, _*_, _≤_, _<_};
+ghost use lib.ListN.{length, drop};
+ghost use Rattle.model.specs.Store.{pageAt};
+ghost use Rattle.model.specs.Wire.{number, bytes, byOperation, parse};
+ghost use Rattle.rows.specs.View.{foundOf};
+ghost use Rattle.wire.specs.Requests.{parsedOf};
+ghost use Rattle.wire.specs.Answers.{headBytes, inFront, Lies, sent};
+
+// A request; a write's page stays in the input, behind the seven bytes.
+pub enum Request {
+    Write(u32),
+    Mark,
+    Revert(u32),
+    ReadAt(u32, u32),
+    Reclaim(u32),
+}
+
+// What stands at the front of an input: its end, a stop number, or a request with its length in bytes.
+pub enum Parsed {
+    End,
+    Stop(u32),
+    One(Request, usize),
+}
+
+fn wide(x: u8) -> u64
+    ensures { λ r. ⌜ r ≡ x ⌝ }
+{
+    x as u64
+}
+
+// The number that at most seven bytes spell, most significant first.
+pub fn get_number(s: &[u8]) -> u64
+    requires { ⌜ length (now s) ≤ 7 ⌝ }
+    ensures { λ r. ⌜ r ≡ number 0 (now (s .entry)) ⌝ }
+{
+    let mut n: u64 = 0;
+    for i in 0..s.len() {
+        n = n * 256 + wide(s[i]);
+    }
+    n
+}
+
+// A request of seven bytes; unused is the sum of the spare bits and of the fields that its operation does not use.
+fn short(q: Request, unused: u64) -> Parsed
+    ensures { λ r. ⌜ r ≡ cond (eqb unused 0) (Parsed.One q 7) (Parsed.Stop 13) ⌝ }
+{
+    if unused == 0 {
+        Parsed::One(q, 7)
+    } else {
+        Parsed::Stop(13)
+    }
+}
+
+// A request whose page follows; left is what the input has behind the seven bytes.
+fn paged(q: Request, unused: u64, left: usize) -> Parsed
+    ensures { λ r. ⌜ r ≡ cond (eqb unused 0) (cond (leb 256 left) (Parsed.One q 263) (Parsed.Stop 11)) (Parsed.Stop 13) ⌝ }
+{
+    if unused == 0 {
+        if 256 <= left {
+            Parsed::One(q, 263)
+        } else {
+            Parsed::Stop(11)
+        }
+    } else {
+        Parsed::Stop(13)
+    }
+}
+
+// The request of an operation with its fields.
+fn by_operation(operation: u64, a: u64, m: u64, spare: u64, left: usize) -> Parsed
+    requires { ⌜ (a < 65536) × (m < 4294967296) × (spare < 32) ⌝ }
+    ensures { λ r. ⌜ ((part : List ℕ) → length part ≡ 7 + left → parsedOf part r ≡ byOperation operation a m spare (drop 7 part)) ⌝ }
+{
+    match operation {
+        1 => paged(Request::Write(a as u32), m + spare, left),
+        2 => short(Request::Mark, a + m + spare),
+        3 => short(Request::Revert(m as u32), a + spare),
+        4 => short(Request::ReadAt(a as u32, m as u32), spare),
+        5 => short(Request::Reclaim(m as u32), a + spare),
+        _ => Parsed::Stop(12),
+    }
+}
+
+// Reads the request at the front of what is left of a batch: operation 3 bits, address 16, moment 32, spare 5.
+pub fn read_request(part: &[u8]) -> Parsed
+    ensures { λ r. ⌜ parsedOf (now (part .entry)) r ≡ parse (now (part .entry)) ⌝ }
+{
+    if part.len() == 0 {
+        return Parsed::End;
+    }
+    if part.len() < 7 {
+        return Parsed::Stop(11);
+    }
+    let n = get_number(&part[..7]);
+    by_operation(
+        n / 9007199254740992 % 8,
+        n / 137438953472 % 65536,
+        n / 32 % 4294967296,
+        n % 32,
+        part.len() - 7,
+    )
+}
+
+// The bytes of src go to the front of out.
+pub fn copy(out: &mut [u8], src: &[u8])
+    requires { ⌜ length (now src) ≤ length (now out) ⌝ }
+    ensures { λ _. ⌜ now (out .exit) ≡ inFront (now (src .entry)) (now (out .entry)) ⌝ }
+{
+    for i in 0..src.len() {
+        out[i] = src[i];
+    }
+}
+
+// A number as four bytes, most significant first, goes to the front of out.
+pub fn put_number(out: &mut [u8], x: u32)
+    requires { ⌜ 4 ≤ length (now out) ⌝ }
+    ensures { λ _. ⌜ now (out .exit) ≡ inFront (bytes 4 x) (now (out .entry)) ⌝ }
+{
+    out[0] = (x / 16777216 % 256) as u8;
+    out[1] = (x / 65536 % 256) as u8;
+    out[2] = (x / 256 % 256) as u8;
+    out[3] = (x % 256) as u8;
+}
+
+// The five bytes of an answer without its page go to the front of out.
+pub fn put_head(out: &mut [u8], refusal: u32, present: u32, value: u32)
+    requires { ⌜ (5 ≤ length (now out)) × (refusal < 64) × (present < 2) ⌝ }
+    ensures { λ _. ⌜ now (out .exit) ≡ inFront (headBytes refusal present value) (now (out .entry)) ⌝ }
+{
+    out[0] = (refusal * 4 + present * 2) as u8;
+    put_number(&mut out[1..], value);
+}
+
+// The page at a place of the slab goes to the front of out.
+pub fn put_page(out: &mut [u8], slab: &[u8], place: u32)
+    requires { ⌜ (256 ≤ length (now out)) × (256 * place + 256 ≤ length (now slab)) ⌝ }
+    ensures { λ _. ⌜ now (out .exit) ≡ inFront (pageAt (now (slab .entry)) place) (now (out .entry)) ⌝ }
+{
+    let at = place as usize * 256;
+    copy(out, &slab[at..at + 256]);
+}
+
+// How many bytes the answer of an outcome takes.
+pub fn answer_size(r: Outcome) -> usize
+    ensures { λ n. ⌜ ((slab : List ℕ) → Lies (foundOf (r .found)) slab → n ≡ length (sent r slab)) ⌝ }
+{
+    let found = r.found;
+    match found {
+        Found::Nothing => 5,
+        Found::Row(_) => 261,
+    }
+}
+
+// The answer of an outcome goes to the front of out; the result is its length.
+pub fn put_answer(out: &mut [u8], slab: &[u8], r: Outcome) -> usize
+    requires { ⌜ (r .refusal < 64) × Lies (foundOf (r .found)) (now slab) × (length (sent r (now slab)) ≤ length (now out)) ⌝ }
+    ensures { λ n. ⌜ (n ≡ length (sent r (now (slab .entry)))) × (now (out .exit) ≡ inFront (sent r (now (slab .entry))) (now (out .entry))) ⌝ }
+{
+    let found = r.found;
+    match found {
+        Found::Nothing => {
+            put_head(out, r.refusal, 0, r.value);
+            5
+        }
+        Found::Row(row) => {
+            put_head(out, r.refusal, 1, r.value);
+            put_page(&mut out[5..], slab, row.place);
+            261
+        }
+    }
+}
