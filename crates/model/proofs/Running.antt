@@ -83,6 +83,17 @@ batch-next s input space q n c c′ e d =
     (run-fuel (length input) (suc (length (drop n input))) (step s q .store) (drop n input) _ (shorter n (length input) input (w .1) (w .2) (omega arith)) (omega arith)
     ∙ sym (batch-run (step s q .store) (drop n input) _ c′)))
 
+-- a batch that ends, is stopped by what it reads, or has no space for the next answer
+module _ (s : Store) (input : List ℕ) (space : ℕ) (c : tableCheck s ≡ 0) where
+  pub batch-end : parse input ≡ end → batch s input space ≡ ended s 0
+  batch-end e = batch-run s input space c ∙ run-end (length input) s input space e
+
+  pub batch-stop : (n : ℕ) → parse input ≡ stop n → batch s input space ≡ ended s n
+  batch-stop n e = batch-run s input space c ∙ run-stop (length input) s input space n e
+
+  pub batch-full : (q : Request) (n : ℕ) → parse input ≡ one q n → ltb space (length (answerBytes (step s q .answer))) ≡ true → batch s input space ≡ ended s 14
+  batch-full q n e d = batch-run s input space c ∙ run-full (length input) s input space q n e d
+
 -- an empty input
 pub batch-empty : (s : Store) (space : ℕ) → tableCheck s ≡ 0 → batch s [] space ≡ ended s 0
 unfolding parse

@@ -1,12 +1,20 @@
 -- Each request keeps a store sound, and against the reference.
-use Prim.Native.Nat.{ℕ}
+use Prim.Native.Nat.{ℕ, _≤_}
+use mathlib.Core.List.{List}
+use mathlib.Core.Option.{Option, some, none}
+use mathlib.Core.Bool.{Bool, cond}
+use native.Mathlib.Omega.{arith}
+use lib.Dec.{leb, ltb}
+use lib.ListN.{length}
+use Rattle.model.specs.declared.Record.{Record}
 use mathlib.Core.Path.{_≡_, refl, subst}
-use Rattle.model.specs.Store.{Store, foundPage}
+use Rattle.model.specs.Store.{Store, open-end, foundPage}
 use Rattle.model.specs.Lookup.{lookup}
 use Rattle.model.specs.Soundness.{tableCheck}
-use Rattle.model.specs.Wire.{Request, write, mark, revert, readAt, reclaim}
-use Rattle.model.specs.Step.{step}
+use Rattle.model.specs.Wire.{Request, write, mark, revert, readAt, reclaim, accepted}
+use Rattle.model.specs.Step.{Stepped, unchanged, standing, firstFree, intoFree, written, doWrite, doMark, doRevert, doRead, doReclaim, step}
 use Rattle.model.specs.Reference.{Snapshot, Reference}
+use Rattle.model.proofs.Base.{case}
 use Rattle.model.proofs.Invariant.{Sound, sound-check, Reads, Inv, referenceOf, canon}
 use Rattle.model.proofs.Moves.{Stepping, mark-step, revert-step}
 use Rattle.model.proofs.Writing.{write-step}
@@ -31,3 +39,44 @@ step-sound s q h w = step-canon s (λ t a. foundPage (s .slab) (lookup s a t)) q
 
 pub step-check : (s : Store) (q : Request) → Sound s → Whole q → tableCheck (step s q .store) ≡ 0
 step-check s q h w = sound-check (step s q .store) (step-sound s q h w)
+
+-- an answer without a page is five bytes, a request's own refusals are at most 10, and an answer with a page leaves the store
+pub record Answers (s : Store) (st : Stepped) : Type 0 where
+  pub small : st .answer .refusal ≤ 10
+  pub leaves : (st .answer .page ≡ none → ⊥) → st .store ≡ s
+
+refused-answers : (s : Store) (n : ℕ) → n ≤ 10 → Answers s (unchanged s n)
+refused-answers s n l = record { small = l; leaves = λ e. refl }
+
+accepted-answers : (s u : Store) (n : ℕ) → Answers s (record { store = u; answer = accepted n })
+accepted-answers s u n = record { small = omega arith; leaves = λ e. absurd (e refl) }
+
+if-answers : (s : Store) (b : Bool) (x y : Stepped) → Answers s x → Answers s y → Answers s (cond b x y)
+if-answers s b x y f g = case b (λ e. rw e f) (λ e. rw e g)
+
+written-answers : (s : Store) (a : ℕ) (page : List ℕ) (o : Option Record) → Answers s (written s a page o)
+written-answers s a page (some r) = accepted-answers s _ _
+written-answers s a page none =
+    if-answers s (ltb (s .head .records) (length (s .recordRows))) _ _ (free-answers (firstFree (s .placeRows))) (refused-answers s 5 (omega arith))
+  where
+    free-answers : (o : Option ℕ) → Answers s (intoFree s a page o)
+    free-answers none = refused-answers s 6 (omega arith)
+    free-answers (some p) = accepted-answers s _ _
+
+pub step-answers : (s : Store) (q : Request) → Answers s (step s q)
+unfolding step doWrite doMark doRevert doRead doReclaim
+step-answers s (write a page) = if-answers s (ltb a (s .head .size)) _ _ (written-answers s a page (standing s a)) (refused-answers s 4 (omega arith))
+step-answers s mark = if-answers s (ltb (s .head .now) open-end) _ _ (accepted-answers s _ _) (refused-answers s 10 (omega arith))
+step-answers s (revert m) =
+    if-answers s (ltb m (s .head .floor)) _ _ (refused-answers s 8 (omega arith))
+    (if-answers s (leb (s .head .now) m) _ _ (refused-answers s 9 (omega arith))
+    (if-answers s (leb open-end (s .head .now)) _ _ (refused-answers s 10 (omega arith))
+    (if-answers s (leb (length (s .branchRows)) (s .head .branches)) _ _ (refused-answers s 7 (omega arith)) (accepted-answers s _ _))))
+step-answers s (readAt a m) =
+    if-answers s (ltb a (s .head .size)) _ _
+    (if-answers s (ltb m (s .head .floor)) _ _ (refused-answers s 8 (omega arith))
+    (if-answers s (ltb (s .head .now) m) _ _ (refused-answers s 9 (omega arith)) (record { small = omega arith; leaves = λ e. refl })))
+    (refused-answers s 4 (omega arith))
+step-answers s (reclaim m) =
+    if-answers s (ltb m (s .head .floor)) _ _ (refused-answers s 8 (omega arith))
+    (if-answers s (ltb (s .head .now) m) _ _ (refused-answers s 9 (omega arith)) (accepted-answers s _ _))

@@ -66,8 +66,7 @@ returns : tie.Need-returns
 returns c =
     let h = c .before .before in
     let s = h .before .before .before .before .before .before in
-    let e = h .before .before .enum-told .given .1 in
-    (
+    let e = h .before .before .enum-told .given .1 in (
       sym (size-none (s .args .r) (now (s .args .slab)) e),
       h .put-head .ensures ∙ ap (λ (l : List ℕ). inFront l (now (s .args .out))) (sym (sent-none (s .args .r) (now (s .args .slab)) e)),
     )
@@ -82,12 +81,11 @@ returns-2 c =
     let s = f .before .before .before .before in
     let e = f .found .given .1 in
     let out = now (s .args .out) in
-    let slab = now (s .args .slab) in
-    (
+    let slab = now (s .args .slab) in (
       sym (size-page (s .args .r) slab _ e (s .pre .1)),
       front-then (headBytes (s .args .r .refusal) 1 (s .args .r .value)) (pageAt slab _) out (h .put-head2 .last .0) _ 5 (length-head (s .args .r .refusal) 1 (s .args .r .value))
-      (h .put-head2 .ensures) (c .before .before .put-page .ensures)
-      ∙ ap (λ (l : List ℕ). inFront l out) (sym (sent-page (s .args .r) slab _ e)),
+          (h .put-head2 .ensures) (c .before .before .put-page .ensures)
+          ∙ ap (λ (l : List ℕ). inFront l out) (sym (sent-page (s .args .r) slab _ e)),
     )
 
 pub put-answer-spec : {M : Type 1} → statement M
