@@ -1,13 +1,13 @@
 -- What is sent for an outcome: its head, and the page of the record that was found.
 use Prim.Native.Nat.{ℕ, _+_, _*_, _≤_}
-use mathlib.Core.Path.{_≡_, refl, sym, ap, _∙_}
+use mathlib.Core.Path.{_≡_}
 use mathlib.Core.List.{List, _++_, append-nil}
 use native.Mathlib.Omega.{arith}
-use lib.ListN.{length, take, drop, length-append, length-drop}
+use lib.ListN.{length, drop, length-append, length-drop}
 use lib.Seq.{length-take-le}
 use Rattle.model.specs.declared.Record.{Record}
 use Rattle.model.specs.Store.{pageAt}
-use Rattle.model.specs.Wire.{bytes, packed, answerBytes}
+use Rattle.model.specs.Wire.{answerBytes}
 use Rattle.model.proofs.Packing.{length-bytes}
 use Rattle.rows.specs.declared.Found.the-variants.{Row, Nothing}
 use Rattle.rows.specs.declared.Outcome.{Outcome}

@@ -1,6 +1,6 @@
 -- The request reader's cases, and what its result says of the input.
 use Prim.Native.Nat.{ℕ, _+_, _≤_, _<_}
-use mathlib.Core.Path.{_≡_, refl, sym, ap, _∙_}
+use mathlib.Core.Path.{_≡_, refl}
 use mathlib.Core.List.{List, [], _∷_}
 use mathlib.Core.Bool.{Bool, true, false, cond, _&&_}
 use native.Mathlib.Omega.{arith}
@@ -13,7 +13,7 @@ use Rattle.model.proofs.Parsing.{Reads, parse-reads}
 use Rattle.wire.specs.declared.Request.{Request}
 use Rattle.wire.specs.declared.Request.the-variants.{Write}
 use Rattle.wire.specs.declared.Parsed.{Parsed}
-use Rattle.wire.specs.declared.Parsed.the-variants.{End, Stop, One}
+use Rattle.wire.specs.declared.Parsed.the-variants.{Stop, One}
 use Rattle.wire.specs.Requests.{requestOf, parsedOf}
 
 -- a sum is zero exactly where both are

@@ -6,7 +6,7 @@ use lib.ListN.{length, drop}
 use Rattle.model.specs.declared.Record.{Record}
 use Rattle.model.specs.Wire.{bytes, packed, answerBytes}
 use Rattle.rows.specs.declared.Outcome.{Outcome}
-use Rattle.rows.specs.View.{foundOf, answerOf}
+use Rattle.rows.specs.View.{answerOf}
 
 -- the five bytes of an answer without its page: refusal 6 bits, page present 1, spare 1, number 32
 unfoldable pub headBytes : ℕ → ℕ → ℕ → List ℕ

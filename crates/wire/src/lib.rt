@@ -52,24 +52,21 @@ fn short(q: Request, unused: u64) -> Parsed
     ensures { λ r. ⌜ r ≡ cond (eqb unused 0) (Parsed.One q 7) (Parsed.Stop 13) ⌝ }
 {
     if unused == 0 {
-        Parsed::One(q, 7)
-    } else {
-        Parsed::Stop(13)
+        return Parsed::One(q, 7);
     }
+    Parsed::Stop(13)
 }
 
 // A request whose page follows; left is what the input has behind the seven bytes.
 fn paged(q: Request, unused: u64, left: usize) -> Parsed
     ensures { λ r. ⌜ r ≡ cond (eqb unused 0) (cond (leb 256 left) (Parsed.One q 263) (Parsed.Stop 11)) (Parsed.Stop 13) ⌝ }
 {
-    if unused == 0 {
-        if 256 <= left {
-            Parsed::One(q, 263)
-        } else {
-            Parsed::Stop(11)
-        }
-    } else {
+    if unused != 0 {
         Parsed::Stop(13)
+    } else if left < 256 {
+        Parsed::Stop(11)
+    } else {
+        Parsed::One(q, 263)
     }
 }
 

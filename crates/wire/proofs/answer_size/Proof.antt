@@ -3,22 +3,16 @@ use Rattle.wire.proofs.Answers.{size-none, size-page}
 use borrow.Author.Needs.{needs}
 use Rattle.wire.proofs.answer_size.Statement.{statement}
 use Rattle.wire.proofs.answer_size.Tie as tie
-use Rattle.wire.proofs.answer_size.Reads as reads
-use Rattle.wire.proofs.answer_size.Lts as lts
 
--- src/lib.rt:156:27
 enum-told : tie.Need-enum-told
 enum-told c = search needs
 
--- src/lib.rt:157:26
 enum-told-2 : tie.Need-enum-told-2
 enum-told-2 c = search needs
 
--- src/lib.rt:151:1
 returns : tie.Need-returns
 returns c = λ slab h. sym (size-none (c .before .before .args .r) slab (c .enum-told .given .1))
 
--- src/lib.rt:151:1
 returns-2 : tie.Need-returns-2
 returns-2 c = λ slab h. sym (size-page (c .before .before .args .r) slab _ (c .enum-told2 .given .1) h)
 

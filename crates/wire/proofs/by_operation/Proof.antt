@@ -1,114 +1,88 @@
 use mathlib.Core.Path.{refl}
-use native.Mathlib.Omega.{arith}
 use Prim.Native.Nat.{_+_}
 use borrow.Author.Tests.{ne-eqb}
 use Rattle.model.specs.Wire.{byOperation}
-use Rattle.wire.specs.declared.Request.the-variants.{Write, Mark, Revert, ReadAt, Reclaim}
+use Rattle.wire.specs.declared.Request.the-variants.{Mark, Revert, ReadAt, Reclaim}
 use Rattle.wire.proofs.Requests.{sum-zero, sum-three, short-is, paged-is}
 use borrow.Author.Needs.{needs}
 use Rattle.wire.proofs.by_operation.Statement.{statement}
 use Rattle.wire.proofs.by_operation.Tie as tie
-use Rattle.wire.proofs.by_operation.Reads as reads
-use Rattle.wire.proofs.by_operation.Lts as lts
-use Rattle.wire.proofs.paged.Reads as paged-reads
-use Rattle.wire.proofs.short.Reads as short-reads
 
--- src/lib.rt:82:35
 cast-t7 : tie.Need-cast-t7
 cast-t7 c = search needs
 
--- src/lib.rt:82:46
 add-paged : tie.Need-add-paged
 add-paged c = search needs
 
--- src/lib.rt:82:14
 paged-requires : tie.Need-paged-requires
 paged-requires c κs = search needs
 
--- src/lib.rt:83:35
 add-short : tie.Need-add-short
 add-short c = search needs
 
--- src/lib.rt:83:35
 add-short-2 : tie.Need-add-short-2
 add-short-2 c = search needs
 
--- src/lib.rt:83:14
 short-requires : tie.Need-short-requires
 short-requires c κs = search needs
 
--- src/lib.rt:84:36
 cast-t13 : tie.Need-cast-t13
 cast-t13 c = search needs
 
--- src/lib.rt:84:47
 add-short-3 : tie.Need-add-short-3
 add-short-3 c = search needs
 
--- src/lib.rt:84:14
 short-requires-2 : tie.Need-short-requires-2
 short-requires-2 c κs = search needs
 
--- src/lib.rt:85:36
 cast-t16 : tie.Need-cast-t16
 cast-t16 c = search needs
 
--- src/lib.rt:85:46
 cast-t17 : tie.Need-cast-t17
 cast-t17 c = search needs
 
--- src/lib.rt:85:14
 short-requires-3 : tie.Need-short-requires-3
 short-requires-3 c κs = search needs
 
--- src/lib.rt:86:37
 cast-t19 : tie.Need-cast-t19
 cast-t19 c = search needs
 
--- src/lib.rt:86:48
 add-short-4 : tie.Need-add-short-4
 add-short-4 c = search needs
 
--- src/lib.rt:86:14
 short-requires-4 : tie.Need-short-requires-4
 short-requires-4 c κs = search needs
 
--- src/lib.rt:77:1
 returns : tie.Need-returns
 unfolding byOperation
 returns c = λ part l.
     let x = c .before .before .args in
     rw (c .before .match .keys1, c .paged .ensures) (paged-is part (x .a) (x .m + x .spare) (x .left) _ (sum-zero (x .m) (x .spare)) l)
 
--- src/lib.rt:77:1
 returns-2 : tie.Need-returns-2
 unfolding byOperation
 returns-2 c = λ part l.
     let x = c .before .before .args in
     rw (c .before .match .keys2, c .short .ensures) (short-is part Mark (x .a + x .m + x .spare) _ (sum-three (x .a) (x .m) (x .spare)))
 
--- src/lib.rt:77:1
 returns-3 : tie.Need-returns-3
 unfolding byOperation
 returns-3 c = λ part l.
     let x = c .before .before .args in
     rw (c .before .match .keys3, c .short2 .ensures) (short-is part (Revert (x .m)) (x .a + x .spare) _ (sum-zero (x .a) (x .spare)))
 
--- src/lib.rt:77:1
 returns-4 : tie.Need-returns-4
 unfolding byOperation
 returns-4 c = λ part l.
     let x = c .before .before .args in
     rw (c .before .match .keys4, c .short3 .ensures) (short-is part (ReadAt (x .a) (x .m)) (x .spare) _ refl)
 
--- src/lib.rt:77:1
 returns-5 : tie.Need-returns-5
 unfolding byOperation
 returns-5 c = λ part l.
     let x = c .before .before .args in
     rw (c .before .match .keys5, c .short4 .ensures) (short-is part (Reclaim (x .m)) (x .a + x .spare) _ (sum-zero (x .a) (x .spare)))
 
--- src/lib.rt:77:1
 returns-6 : tie.Need-returns-6
 unfolding byOperation
 returns-6 c = λ part l.

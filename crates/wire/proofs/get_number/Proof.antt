@@ -1,18 +1,15 @@
-use mathlib.Core.Path.{_≡_, refl, ap, sym, _∙_}
-use Prim.Native.Nat.{ℕ, suc, _≤_, _<_, _-_, _+_, _*_, _^_}
+use mathlib.Core.Path.{_≡_, refl, sym, _∙_}
+use Prim.Native.Nat.{_≤_, _<_, _-_, _^_}
 use native.Mathlib.Nat.{pow-le-pow-right, pow-suc}
 use native.Mathlib.Numerals.{add-one}
 use native.Mathlib.Omega.{arith}
 use borrow.Author.Needs.{needs}
 use denote.Ref.{now}
-use lib.ListN.{getD, length, drop, drop-of-length-le}
+use lib.ListN.{length, drop, drop-of-length-le}
 use lib.Seq.{drop-cons}
 use Rattle.model.specs.Wire.{number}
 use Rattle.wire.proofs.get_number.Statement.{statement}
 use Rattle.wire.proofs.get_number.Tie as tie
-use Rattle.wire.proofs.get_number.Reads as reads
-use Rattle.wire.proofs.get_number.Lts as lts
-use Rattle.wire.proofs.wide.Reads as wide-reads
 
 abbrev Inv-loop : tie.InvT-loop
 Inv-loop s n₀ i₀ i-end n i = (i ≤ i-end) × (i-end ≡ length s) × (n < 256 ^ i) × (number 0 s ≡ number n (drop i s))

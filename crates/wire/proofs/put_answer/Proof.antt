@@ -5,16 +5,12 @@ use native.Mathlib.Omega.{arith}
 use denote.Ref.{now}
 use lib.ListN.{length, length-take, length-drop}
 use Rattle.model.specs.Store.{pageAt}
-use Rattle.wire.specs.Answers.{headBytes, inFront, sent}
+use Rattle.wire.specs.Answers.{headBytes, inFront}
 use Rattle.wire.proofs.Front.{front-then, length-front}
 use Rattle.wire.proofs.Answers.{length-head, sent-none, size-none, sent-page, page-lies, size-page}
 use borrow.Author.Needs.{needs}
 use Rattle.wire.proofs.put_answer.Statement.{statement}
 use Rattle.wire.proofs.put_answer.Tie as tie
-use Rattle.wire.proofs.put_answer.Reads as reads
-use Rattle.wire.proofs.put_answer.Lts as lts
-use Rattle.wire.proofs.put_head.Reads as put-head-reads
-use Rattle.wire.proofs.put_page.Reads as put-page-reads
 
 enum-told : tie.Need-enum-told
 enum-told c = search needs
@@ -68,7 +64,7 @@ returns c =
     let s = h .before .before .before .before .before .before in
     let e = h .before .before .enum-told .given .1 in (
       sym (size-none (s .args .r) (now (s .args .slab)) e),
-      h .put-head .ensures ∙ ap (λ (l : List ℕ). inFront l (now (s .args .out))) (sym (sent-none (s .args .r) (now (s .args .slab)) e)),
+      rw (sent-none (s .args .r) (now (s .args .slab)) e) (h .put-head .ensures),
     )
 
 same-length-2 : tie.Need-same-length-2

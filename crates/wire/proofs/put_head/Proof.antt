@@ -12,43 +12,31 @@ use Rattle.wire.proofs.Answers.{length-head}
 use borrow.Author.Needs.{needs}
 use Rattle.wire.proofs.put_head.Statement.{statement}
 use Rattle.wire.proofs.put_head.Tie as tie
-use Rattle.wire.proofs.put_head.Reads as reads
-use Rattle.wire.proofs.put_head.Lts as lts
-use Rattle.wire.proofs.put_number.Reads as put-number-reads
 
--- src/lib.rt:137:15
 mul-out : tie.Need-mul-out
 mul-out c = search needs
 
--- src/lib.rt:137:29
 mul-out-2 : tie.Need-mul-out-2
 mul-out-2 c = search needs
 
--- src/lib.rt:137:15
 add-out : tie.Need-add-out
 add-out c = search needs
 
--- src/lib.rt:137:14
 cast-out : tie.Need-cast-out
 cast-out c = search needs
 
--- src/lib.rt:137:5
 slice-write-out : tie.Need-slice-write-out
 slice-write-out c = search needs
 
--- src/lib.rt:138:16
 sub-put-number : tie.Need-sub-put-number
 sub-put-number c = simp length-set (omega arith)
 
--- src/lib.rt:138:16
 part-put-number-start : tie.Need-part-put-number-start
 part-put-number-start c = simp length-set (omega arith)
 
--- src/lib.rt:138:16
 part-put-number-end : tie.Need-part-put-number-end
 part-put-number-end c = search needs
 
--- src/lib.rt:138:5
 put-number-requires : tie.Need-put-number-requires
 put-number-requires c κs = simp (length-take, length-drop, length-set) (omega arith)
 

@@ -5,39 +5,28 @@ use Rattle.model.specs.Store.{pageAt}
 use borrow.Author.Needs.{needs}
 use Rattle.wire.proofs.put_page.Statement.{statement}
 use Rattle.wire.proofs.put_page.Tie as tie
-use Rattle.wire.proofs.put_page.Reads as reads
-use Rattle.wire.proofs.put_page.Lts as lts
-use Rattle.wire.proofs.copy.Reads as copy-reads
 
--- src/lib.rt:146:14
 mul-at : tie.Need-mul-at
 mul-at c = search needs
 
--- src/lib.rt:147:25
 add-copy : tie.Need-add-copy
 add-copy c = search needs
 
--- src/lib.rt:147:15
 sub-copy : tie.Need-sub-copy
 sub-copy c = search needs
 
--- src/lib.rt:147:15
 part-copy-start : tie.Need-part-copy-start
 part-copy-start c = search needs
 
--- src/lib.rt:147:15
 part-copy-end : tie.Need-part-copy-end
 part-copy-end c = search needs
 
--- src/lib.rt:147:5
 copy-requires : tie.Need-copy-requires
 copy-requires c κs = search needs
 
--- src/lib.rt:142:1
 same-length : tie.Need-same-length
 same-length c = search needs
 
--- src/lib.rt:142:1
 returns : tie.Need-returns
 unfolding pageAt
 returns c =

@@ -1,14 +1,10 @@
-use borrow.Author.Tests.{eq-eqb, ne-eqb, le-leb, lt-leb}
+use borrow.Author.Tests.{eq-eqb, ne-eqb}
 use Rattle.wire.proofs.short.Statement.{statement}
 use Rattle.wire.proofs.short.Tie as tie
-use Rattle.wire.proofs.short.Reads as reads
-use Rattle.wire.proofs.short.Lts as lts
 
--- src/lib.rt:51:1
 returns : tie.Need-returns
 returns c = rw (eq-eqb _ _ (c .if1 .taken))
 
--- src/lib.rt:51:1
 returns-2 : tie.Need-returns-2
 returns-2 c = rw (ne-eqb _ _ (c .if1 .left))
 

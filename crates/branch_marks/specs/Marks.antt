@@ -1,0 +1,55 @@
+-- Branches by row number: the branch that holds a moment, the parent of a branch, and the branches that a reclaim keeps.
+use mathlib.Core.Path.{_≡_}
+use mathlib.Core.List.{List}
+use mathlib.Core.Bool.{Bool, cond}
+use Prim.Native.Nat.{ℕ, zero, suc, _≤_, _<_}
+use lib.ListN.{length, getD}
+use Rattle.model.specs.declared.Branch.{Branch}
+use Rattle.model.specs.Store.{any}
+use Rattle.model.specs.Lookup.{holds, inAncestry}
+use Rattle.model.proofs.Candidates.{candidates}
+use Rattle.model.proofs.ByNumber.{branch, newestOf}
+
+-- the newest of the first n rows that holds the moment t
+unfoldable pub holder : List Branch → ℕ → ℕ → ℕ
+holder bs zero t = zero
+holder bs (suc i) t = cond (holds (branch bs i) t) i (holder bs i t)
+
+-- r is that row, and it holds t
+pub record Holder (bs : List Branch) (n t r : ℕ) : Type 0 where
+  pub here : r ≡ holder bs n t
+  pub inside : r < n
+  pub low : branch bs r .start ≤ t
+  pub high : t ≤ branch bs r .end
+
+-- a test as a byte
+abbrev pub bit : Bool → ℕ
+bit b = cond b 1 0
+
+-- the branch that starts at x is in the ancestry of a moment that decides a reclaim to the floor m: the floor, or a start above it.
+-- These decide for all moments from the floor to now (proofs/Candidates of the model)
+unfoldable pub wanted : List Branch → ℕ → ℕ → ℕ → Bool
+wanted bs n m x = any (λ t. inAncestry (newestOf bs n) t x) (candidates m (newestOf bs n))
+
+-- a table whose first n numbers are f 0, f 1, .., the others as they were
+pub record Filled (f : ℕ → ℕ) (n : ℕ) (old new : List ℕ) : Type 0 where
+  pub first : (k : ℕ) → k < n → getD new k 0 ≡ f k
+  pub rest : (k : ℕ) → n ≤ k → getD new k 0 ≡ getD old k 0
+  pub long : length new ≡ length old
+
+-- n numbers, all 0
+pub record Zeros (n : ℕ) (t : List ℕ) : Type 0 where
+  pub long : length t ≡ n
+  pub zero : (k : ℕ) → k < n → getD t k 0 ≡ 0
+
+-- the parent: the earlier row that holds the cut; the first row has none, and 0 stands for it
+abbrev pub parentOf : List Branch → ℕ → ℕ
+parentOf bs i = holder bs i (branch bs i .cut)
+
+-- the byte of a branch: 1 where a reclaim to the floor m keeps it
+abbrev pub keptBranch : List Branch → ℕ → ℕ → ℕ → ℕ
+keptBranch bs n m i = bit (wanted bs n m (branch bs i .start))
+
+-- a table of the parents of n rows
+pub record Parents (bs : List Branch) (n : ℕ) (up : List ℕ) : Type 0 where
+  pub at : (k : ℕ) → k < n → getD up k 0 ≡ parentOf bs k

@@ -1,0 +1,7 @@
+pub mod Tests
+pub mod Search
+pub mod Branches
+pub mod Records
+pub mod Used
+pub mod Sizes
+pub mod Checked

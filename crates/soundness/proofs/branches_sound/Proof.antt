@@ -1,0 +1,124 @@
+use mathlib.Core.Path.{_≡_, sym, _∙_, subst}
+use mathlib.Core.Bool.{false≢true}
+use Prim.Native.Nat.{suc, _≤_, _-_, _+_}
+use native.Mathlib.Omega.{arith}
+use borrow.Author.Needs.{needs}
+use borrow.Author.Tests.{not-true, not-false}
+use denote.Ref.{now}
+use Rattle.rows.specs.Rows.{branchRowsOf}
+use Rattle.rows.proofs.Laws.{branch-count}
+use Rattle.soundness.proofs.Tests.{refused}
+use Rattle.soundness.proofs.Branches.{same, Passes, first→, →first, passes-at, sound-passes, sound-open, passes-sound}
+use Rattle.soundness.proofs.branches_sound.Statement.{statement}
+use Rattle.soundness.proofs.branches_sound.Tie as tie
+
+abbrev Inv-loop : tie.InvT-loop
+Inv-loop head bt n i₀ i = (1 ≤ i) × (i ≤ head .branches) × Passes (head .floor) (branchRowsOf bt) i
+
+abbrev μ-loop : tie.MeasureT-loop
+μ-loop head bt n i₀ i = head .branches - i
+
+cast-n : tie.Need-cast-n Inv-loop μ-loop
+cast-n c = search needs
+
+branch-at-requires : tie.Need-branch-at-requires Inv-loop μ-loop
+branch-at-requires c κs = search needs
+
+returns : tie.Need-returns Inv-loop μ-loop
+returns c =
+    let s = c .before .before .before .before .before in
+    let bt = now (s .args .bt) in
+    λ rt pt slab. refused (λ z. omega (arith, first→ (s .args .head .floor) (branchRowsOf bt) (omega (arith, branch-count bt, s .pre)) (passes-at (s .args .head .floor) (branchRowsOf bt) (s .args .head .branches) 1 (omega (arith, branch-count bt, s .pre)) (sound-passes (s .args .head) bt rt pt slab (s .pre .0) (s .pre .1) z) (omega arith) (s .pre .0)), same (c .before .before .branch-at .ensures)))
+
+returns-2 : tie.Need-returns-2 Inv-loop μ-loop
+returns-2 c =
+    let s = c .before .before .before .before .before .before .before in
+    let bt = now (s .args .bt) in
+    λ rt pt slab. refused (λ z. omega (arith, first→ (s .args .head .floor) (branchRowsOf bt) (omega (arith, branch-count bt, s .pre)) (passes-at (s .args .head .floor) (branchRowsOf bt) (s .args .head .branches) 1 (omega (arith, branch-count bt, s .pre)) (sound-passes (s .args .head) bt rt pt slab (s .pre .0) (s .pre .1) z) (omega arith) (s .pre .0)), same (c .before .before .before .before .branch-at .ensures)))
+
+loop-holds : tie.Need-loop-holds Inv-loop μ-loop
+loop-holds c =
+    let s = c .before .before .before .before .before .before .before in
+    let bt = now (s .args .bt) in
+    let q = same (c .before .before .before .before .branch-at .ensures) in
+    (omega arith, omega (arith, s .pre), →first (s .args .head .floor) (branchRowsOf bt) (omega (arith, branch-count bt, s .pre)) (record { start = omega arith; cut = omega arith; ordered = omega arith }))
+
+linked-requires : tie.Need-linked-requires Inv-loop μ-loop
+linked-requires c κs =
+    let s = c .before .before .before .before .before .before .before .before .before in
+    let bt = now (s .args .bt) in
+    (omega (arith, s .pre), c .before .loop .inv .2)
+
+returns-3 : tie.Need-returns-3 Inv-loop μ-loop
+returns-3 c =
+    let s = c .before .before .before .before .before .before .before .before .before .before .before in
+    let bt = now (s .args .bt) in
+    let i = c .before .before .before .loop .i in
+    λ rt pt slab.
+    refused
+    (λ z.
+    false≢true
+    (sym (not-true _ (c .if3 .taken))
+    ∙ (c .before .linked .ensures ∙ passes-at (s .args .head .floor) (branchRowsOf bt) (s .args .head .branches) (suc i) (omega (arith, branch-count bt, s .pre)) (sound-passes (s .args .head) bt rt pt slab (s .pre .0) (s .pre .1) z) (omega arith) (omega arith))))
+
+add-i : tie.Need-add-i Inv-loop μ-loop
+add-i c = search needs
+
+loop-less : tie.Need-loop-less Inv-loop μ-loop
+loop-less c = search needs
+
+loop-again : tie.Need-loop-again Inv-loop μ-loop
+loop-again c =
+    let s = c .before .before .before .before .before .before .before .before .before .before .before in
+    let bt = now (s .args .bt) in
+    let i = c .before .before .before .loop .i in
+    let e : suc i ≡ i + 1 = omega arith in
+    (omega arith, omega arith, subst (Passes (s .args .head .floor) (branchRowsOf bt)) e (sym (c .before .linked .ensures) ∙ not-false _ (c .if3 .left)))
+
+sub-branch-at : tie.Need-sub-branch-at Inv-loop μ-loop
+sub-branch-at c = search needs
+
+branch-at-requires-2 : tie.Need-branch-at-requires-2 Inv-loop μ-loop
+branch-at-requires-2 c κs = search needs
+
+returns-4 : tie.Need-returns-4 Inv-loop μ-loop
+returns-4 c =
+    let s = c .before .before .before .before .before .before .before .before .before .before .before .before in
+    let bt = now (s .args .bt) in
+    λ rt pt slab. refused (λ z. omega (arith, sound-open (s .args .head) bt rt pt slab (s .pre .0) (s .pre .1) z, same (c .before .before .branch-at2 .ensures)))
+
+returns-5 : tie.Need-returns-5 Inv-loop μ-loop
+returns-5 c =
+    let s = c .before .before .before .before .before .before .before .before .before .before .before .before .before .before .before in
+    let bt = now (s .args .bt) in
+    λ rt pt slab. refused (λ z. omega (arith, sound-open (s .args .head) bt rt pt slab (s .pre .0) (s .pre .1) z, same (c .before .before .before .before .before .branch-at2 .ensures)))
+
+returns-6 : tie.Need-returns-6 Inv-loop μ-loop
+returns-6 c =
+    let s = c .before .before .before .before .before .before .before .before .before .before .before .before .before .before .before in
+    let bt = now (s .args .bt) in
+    let l = c .before .before .before .before .before .before .before in
+    let e : l .loop .i ≡ s .args .head .branches = omega (arith, c .before .before .before .before .before .before) in
+    λ rt pt slab. sym (passes-sound (s .args .head) bt rt pt slab (s .pre .0) (s .pre .1) (subst (Passes (s .args .head .floor) (branchRowsOf bt)) e (l .loop .inv .2)) (omega (arith, same (c .before .before .before .before .before .branch-at2 .ensures))))
+
+pub branches-sound-spec : {M : Type 1} → statement M
+branches-sound-spec =
+    tie.close
+    (tie.spec
+    Inv-loop
+    μ-loop
+    cast-n
+    branch-at-requires
+    returns
+    returns-2
+    loop-holds
+    linked-requires
+    returns-3
+    add-i
+    loop-less
+    loop-again
+    sub-branch-at
+    branch-at-requires-2
+    returns-4
+    returns-5
+    returns-6)

@@ -1,0 +1,261 @@
+// The table checks 1, 2 and 3.
+use model::Head;
+ghost use mathlib.Core.Path.{_≡_};
+ghost use mathlib.Core.List.{List, _∷_, []};
+ghost use mathlib.Core.Bool.{true, _&&_};
+ghost use Prim.Native.Nat.{ℕ, suc, _+_, _*_, _-_, _≤_, _<_};
+ghost use lib.ListN.{length};
+ghost use Rattle.model.specs.Soundness.{chained, precedes, placed, used, inRange, branchesSound, recordsSound};
+ghost use Rattle.model.proofs.ByNumber.{newestOf, held, entry, Stairs};
+ghost use Rattle.rows.specs.Rows.{branchRowsOf, recordRowsOf};
+ghost use Rattle.rows.specs.View.{storeOf};
+ghost use Rattle.soundness.specs.Check.{wholeRows, allowedOf, checkOf};
+
+// Whether one of the first n branches holds the moment t: the first that ends at t or later is the only one that can.
+fn held_in(bt: &[u32], n: usize, t: u32) -> bool
+    requires { ⌜ n * 3 ≤ length (now bt) ⌝ }
+    requires { ⌜ Stairs (branchRowsOf (now bt)) n ⌝ }
+    ensures { λ r. ⌜ r ≡ held (branchRowsOf (now (bt .entry))) n t ⌝ }
+{
+    let mut lo: usize = 0;
+    let mut hi = n;
+    while lo < hi {
+        let mid = lo + (hi - lo) / 2;
+        let b = rows::branch_at(bt, mid);
+        if b.end < t {
+            lo = mid + 1;
+        } else {
+            hi = mid;
+        }
+    }
+    if lo < n {
+        let b = rows::branch_at(bt, lo);
+        if b.start <= t {
+            return true;
+        }
+    }
+    false
+}
+
+// Whether the branch i, which is not the first, goes on the chain of those before it.
+fn linked(bt: &[u32], i: usize, floor: u32) -> bool
+    requires { ⌜ (0 < i) × (i * 3 + 3 ≤ length (now bt)) ⌝ }
+    requires { ⌜ chained floor (newestOf (branchRowsOf (now bt)) i) ≡ true ⌝ }
+    ensures { λ r. ⌜ r ≡ chained floor (newestOf (branchRowsOf (now (bt .entry))) (suc i)) ⌝ }
+{
+    let b = rows::branch_at(bt, i);
+    let c = rows::branch_at(bt, i - 1);
+    if b.end < b.start {
+        return false;
+    }
+    if b.start <= c.end {
+        return false;
+    }
+    if b.start != c.end + 1 {
+        if floor < b.start {
+            return false;
+        }
+    }
+    held_in(bt, i, b.cut)
+}
+
+// Check 2, in one pass over the counted branches.
+fn branches_sound(head: Head, bt: &[u32]) -> bool
+    requires { ⌜ (1 ≤ head .branches) × (head .branches * 3 ≤ length (now bt)) ⌝ }
+    ensures { λ r. ⌜ ((rt pt slab : List ℕ) → r ≡ branchesSound (storeOf head (now (bt .entry)) rt pt slab)) ⌝ }
+{
+    let n = head.branches as usize;
+    let first = rows::branch_at(bt, 0);
+    if first.start != 0 {
+        return false;
+    }
+    if first.cut != 0 {
+        return false;
+    }
+    let mut i: usize = 1;
+    while i < n {
+        let ok = linked(bt, i, head.floor);
+        if !ok {
+            return false;
+        }
+        i += 1;
+    }
+    let last = rows::branch_at(bt, n - 1);
+    if last.end != 4294967295 {
+        return false;
+    }
+    if head.now < last.start {
+        return false;
+    }
+    true
+}
+
+// Whether the record i stands after the one before it.
+fn after(rt: &[u32], i: usize) -> bool
+    requires { ⌜ (0 < i) × (i * 3 + 3 ≤ length (now rt)) ⌝ }
+    ensures { λ r. ⌜ r ≡ precedes (entry (recordRowsOf (now (rt .entry))) (i - 1)) (entry (recordRowsOf (now (rt .entry))) i) ⌝ }
+{
+    let q = rows::record_at(rt, i - 1);
+    let r = rows::record_at(rt, i);
+    if q.address < r.address {
+        return true;
+    }
+    if q.address != r.address {
+        return false;
+    }
+    if q.moment < r.moment {
+        return true;
+    }
+    false
+}
+
+// Whether the record i is sound by itself.
+fn record_placed(head: Head, bt: &[u32], rt: &[u32], pt: &[u32], i: usize) -> bool
+    requires { ⌜ (head .branches * 3 ≤ length (now bt)) × (i * 3 + 3 ≤ length (now rt)) ⌝ }
+    requires { ⌜ Stairs (branchRowsOf (now bt)) (head .branches) ⌝ }
+    ensures { λ r. ⌜ ((slab : List ℕ) → r ≡ placed (storeOf head (now (bt .entry)) (now (rt .entry)) (now (pt .entry)) slab) (suc i) (entry (recordRowsOf (now (rt .entry))) i ∷ [])) ⌝ }
+{
+    let r = rows::record_at(rt, i);
+    if head.size <= r.address {
+        return false;
+    }
+    if head.now < r.moment {
+        return false;
+    }
+    let p = r.place as usize;
+    if pt.len() <= p {
+        return false;
+    }
+    let k = pt[p] as usize;
+    if k != i + 1 {
+        return false;
+    }
+    held_in(bt, head.branches as usize, r.moment)
+}
+
+// How many place rows are in use.
+fn in_use(pt: &[u32]) -> usize
+    ensures { λ r. ⌜ r ≡ used (now (pt .entry)) ⌝ }
+{
+    let mut n: usize = 0;
+    let mut i: usize = 0;
+    while i < pt.len() {
+        if pt[i] != 0 {
+            n += 1;
+        }
+        i += 1;
+    }
+    n
+}
+
+// Check 3, in one pass over the counted records and one over the places.
+fn records_sound(head: Head, bt: &[u32], rt: &[u32], pt: &[u32]) -> bool
+    requires { ⌜ (head .branches * 3 ≤ length (now bt)) × (head .records * 3 ≤ length (now rt)) ⌝ }
+    requires { ⌜ Stairs (branchRowsOf (now bt)) (head .branches) ⌝ }
+    ensures { λ r. ⌜ ((slab : List ℕ) → r ≡ recordsSound (storeOf head (now (bt .entry)) (now (rt .entry)) (now (pt .entry)) slab)) ⌝ }
+{
+    let n = head.records as usize;
+    let mut i: usize = 0;
+    while i < n {
+        if 0 < i {
+            let up = after(rt, i);
+            if !up {
+                return false;
+            }
+        }
+        let ok = record_placed(head, bt, rt, pt, i);
+        if !ok {
+            return false;
+        }
+        i += 1;
+    }
+    let u = in_use(pt);
+    if u != n {
+        return false;
+    }
+    true
+}
+
+// Whether the volume size and the lengths are allowed: tables of lb, lr and lp numbers, a slab of ls bytes.
+pub fn sizes_allowed(size: u32, lb: usize, lr: usize, lp: usize, ls: usize) -> bool
+    ensures { λ r. ⌜ r ≡ allowedOf size lb lr lp ls ⌝ }
+{
+    if lb % 3 != 0 {
+        return false;
+    }
+    if lr % 3 != 0 {
+        return false;
+    }
+    if size < 1 {
+        return false;
+    }
+    if 65536 < size {
+        return false;
+    }
+    if lb / 3 < 1 {
+        return false;
+    }
+    if 4096 < lb / 3 {
+        return false;
+    }
+    if lr / 3 < 1 {
+        return false;
+    }
+    if 65536 < lr / 3 {
+        return false;
+    }
+    if lp < 1 {
+        return false;
+    }
+    if 65536 < lp {
+        return false;
+    }
+    if ls != 256 * lp {
+        return false;
+    }
+    true
+}
+
+// Check 1.
+fn in_range(head: Head, bt: &[u32], rt: &[u32], pt: &[u32], slab: &[u8]) -> bool
+    ensures { λ r. ⌜ r ≡ (wholeRows (length (now (bt .entry))) (length (now (rt .entry))) && inRange (storeOf head (now (bt .entry)) (now (rt .entry)) (now (pt .entry)) (now (slab .entry)))) ⌝ }
+{
+    let sizes = sizes_allowed(head.size, bt.len(), rt.len(), pt.len(), slab.len());
+    if !sizes {
+        return false;
+    }
+    let nb = head.branches as usize;
+    if nb < 1 {
+        return false;
+    }
+    if bt.len() / 3 < nb {
+        return false;
+    }
+    let nr = head.records as usize;
+    if rt.len() / 3 < nr {
+        return false;
+    }
+    if head.now < head.floor {
+        return false;
+    }
+    true
+}
+
+// The table checks, in their order: 0, or the number of the first that refuses.
+pub fn check(head: Head, bt: &[u32], rt: &[u32], pt: &[u32], slab: &[u8]) -> u32
+    ensures { λ r. ⌜ r ≡ checkOf head (now (bt .entry)) (now (rt .entry)) (now (pt .entry)) (now (slab .entry)) ⌝ }
+{
+    let ranges = in_range(head, bt, rt, pt, slab);
+    if !ranges {
+        return 1;
+    }
+    let rows = branches_sound(head, bt);
+    if !rows {
+        return 2;
+    }
+    let tables = records_sound(head, bt, rt, pt);
+    if !tables {
+        return 3;
+    }
+    0
+}
