@@ -61,8 +61,9 @@ pub fn revert_refusal(head: Head, rows: usize, to: u32) -> u32
     ensures { λ r. ⌜ ((bt rt pt slab : List ℕ) → length (branchRowsOf bt) ≡ rows → r ≡ doRevert (storeOf head bt rt pt slab) to .answer .refusal) ⌝ }
 {
     let present = head.now;
+    let floor = head.floor;
     let n = head.branches as usize;
-    if to < head.floor {
+    if to < floor {
         return 8;
     }
     if present <= to {

@@ -8,20 +8,20 @@ cast-n c = search needs
 
 returns : tie.Need-returns
 returns c =
-    let s = c .before .before .before in
+    let s = c .before .before in
     revert-below (s .args .head) (s .args .rows) (s .args .to) (c .if1 .taken)
 
 returns-2 : tie.Need-returns-2
 returns-2 c =
     let e1 = c .before in
-    let s = e1 .before .before .before in
+    let s = e1 .before .before in
     revert-above (s .args .head) (s .args .rows) (s .args .to) (e1 .if1 .left) (c .if2 .taken)
 
 returns-3 : tie.Need-returns-3
 returns-3 c =
     let e2 = c .before in
     let e1 = e2 .before in
-    let s = e1 .before .before .before in
+    let s = e1 .before .before in
     revert-late (s .args .head) (s .args .rows) (s .args .to) (e1 .if1 .left) (e2 .if2 .left) (c .if3 .taken)
 
 returns-4 : tie.Need-returns-4
@@ -29,7 +29,7 @@ returns-4 c =
     let e3 = c .before in
     let e2 = e3 .before in
     let e1 = e2 .before in
-    let s = e1 .before .before .before in
+    let s = e1 .before .before in
     revert-full (s .args .head) (s .args .rows) (s .args .to) (e1 .if1 .left) (e2 .if2 .left) (e3 .if3 .left) (c .if4 .taken)
 
 returns-5 : tie.Need-returns-5
@@ -37,7 +37,7 @@ returns-5 c =
     let e3 = c .before in
     let e2 = e3 .before in
     let e1 = e2 .before in
-    let s = e1 .before .before .before in
+    let s = e1 .before .before in
     revert-none (s .args .head) (s .args .rows) (s .args .to) (e1 .if1 .left) (e2 .if2 .left) (e3 .if3 .left) (c .if4 .left)
 
 pub revert-refusal-spec : {M : Type 1} → statement M
