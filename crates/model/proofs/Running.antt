@@ -70,6 +70,12 @@ pub batch-run : (s : Store) (input : List ℕ) (space : ℕ) → tableCheck s �
 unfolding batch
 batch-run s input space e = rw e
 
+-- on tables that do not, it ends with the refusal
+pub batch-refused : (s : Store) (input : List ℕ) (space n : ℕ) → tableCheck s ≡ n → (n ≡ 0 → ⊥) → batch s input space ≡ ended s n
+unfolding batch
+batch-refused s input space zero e ne = absurd (ne refl)
+batch-refused s input space (suc n) e ne = rw e
+
 -- what follows a request is a batch of its own, with the store as the request left it
 pub batch-next : (s : Store) (input : List ℕ) (space : ℕ) (q : Request) (n : ℕ) → tableCheck s ≡ 0 → tableCheck (step s q .store) ≡ 0 → parse input ≡ one q n
     → ltb space (length (answerBytes (step s q .answer))) ≡ false

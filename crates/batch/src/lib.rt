@@ -1,0 +1,127 @@
+// A batch: the table checks once, then requests one after the other, each on the store that the last one left.
+use model::Head;
+use rows::Outcome;
+use wire::Parsed;
+use wire::Request;
+ghost use mathlib.Core.Path.{_≡_};
+ghost use lib.ListN.{length};
+ghost use Rattle.model.specs.Step.{step};
+ghost use Rattle.model.specs.Batch.{batch};
+ghost use Rattle.model.proofs.Invariant.{Sound};
+ghost use Rattle.model.proofs.Parsing.{Whole};
+ghost use Rattle.rows.specs.View.{storeOf, steppedOf, WholeRows};
+ghost use Rattle.wire.specs.Requests.{requestOf};
+ghost use Rattle.batch.specs.Batch.{batchOf, stopOf, Leaves};
+
+// What a batch reports: the head, the stop number, the requests answered, their bytes, and the bytes of their answers.
+pub struct Done {
+    pub head: Head,
+    pub stop: u32,
+    pub answered: usize,
+    pub taken: usize,
+    pub sent: usize,
+}
+
+// One request carried out; part is the input from it on, in which a write's page stands.
+pub fn serve(
+    head: Head,
+    bt: &mut [u32],
+    rt: &mut [u32],
+    pt: &mut [u32],
+    slab: &mut [u8],
+    part: &[u8],
+    q: Request,
+) -> Outcome
+    requires { ⌜ Sound (storeOf head (now bt) (now rt) (now pt) (now slab)) × Whole (requestOf (now part) q) ⌝ }
+    ensures { λ r. ⌜ steppedOf r (now (bt .exit)) (now (rt .exit)) (now (pt .exit)) (now (slab .exit)) ≡ step (storeOf head (now (bt .entry)) (now (rt .entry)) (now (pt .entry)) (now (slab .entry))) (requestOf (now (part .entry)) q) ⌝ }
+{
+    match q {
+        Request::Write(a) => writing::write(head, rt, pt, slab, a, &part[7..263]),
+        Request::Mark => store::mark(head),
+        Request::Revert(m) => store::revert(head, bt, m),
+        Request::ReadAt(a, m) => store::read(head, bt, rt, a, m),
+        Request::Reclaim(m) => reclaim::reclaim(head, bt, rt, pt, m),
+    }
+}
+
+// With which number a batch stops at what cannot be read, or at its end.
+pub fn stop_number(p: Parsed) -> u32
+    ensures { λ r. ⌜ r ≡ stopOf p ⌝ }
+{
+    match p {
+        Parsed::End => 0,
+        Parsed::Stop(n) => n,
+        Parsed::One(_, _) => 0,
+    }
+}
+
+// The requests of an input, on sound tables.
+pub fn run(
+    first: Head,
+    bt: &mut [u32],
+    rt: &mut [u32],
+    pt: &mut [u32],
+    slab: &mut [u8],
+    input: &[u8],
+    answers: &mut [u8],
+) -> Done
+    requires { ⌜ Sound (storeOf first (now bt) (now rt) (now pt) (now slab)) × WholeRows (now bt) (now rt) ⌝ }
+    ensures { λ r. ⌜ Leaves (batch (storeOf first (now (bt .entry)) (now (rt .entry)) (now (pt .entry)) (now (slab .entry))) (now (input .entry)) (length (now (answers .entry)))) (now (bt .entry)) (now (rt .entry)) (now (answers .entry)) r (now (bt .exit)) (now (rt .exit)) (now (pt .exit)) (now (slab .exit)) (now (answers .exit)) ⌝ }
+{
+    let mut head = first;
+    let mut answered: usize = 0;
+    let mut at: usize = 0;
+    let mut out: usize = 0;
+    loop {
+        let part = &input[at..];
+        let p = wire::read_request(part);
+        let Parsed::One(q, n) = p else {
+            let stop = stop_number(p);
+            return report(head, stop, answered, at, out);
+        };
+        if answers.len() - out < 5 {
+            return report(head, 14, answered, at, out);
+        }
+        let r = serve(head, bt, rt, pt, slab, part, q);
+        head = r.head;
+        let size = wire::answer_size(r);
+        if answers.len() - out < size {
+            return report(head, 14, answered, at, out);
+        }
+        wire::put_answer(&mut answers[out..], slab, r);
+        answered += 1;
+        at += n;
+        out += size;
+    }
+}
+
+fn report(head: Head, stop: u32, answered: usize, taken: usize, sent: usize) -> Done
+    ensures { λ r. ⌜ r ≡ record { head = head; stop = stop; answered = answered; taken = taken; sent = sent } ⌝ }
+{
+    Done {
+        head,
+        stop,
+        answered,
+        taken,
+        sent,
+    }
+}
+
+// A batch on what is lent, whatever it holds.
+pub fn batch(
+    head: Head,
+    bt: &mut [u32],
+    rt: &mut [u32],
+    pt: &mut [u32],
+    slab: &mut [u8],
+    input: &[u8],
+    answers: &mut [u8],
+) -> Done
+    ensures { λ r. ⌜ Leaves (batchOf head (now (bt .entry)) (now (rt .entry)) (now (pt .entry)) (now (slab .entry)) (now (input .entry)) (length (now (answers .entry)))) (now (bt .entry)) (now (rt .entry)) (now (answers .entry)) r (now (bt .exit)) (now (rt .exit)) (now (pt .exit)) (now (slab .exit)) (now (answers .exit)) ⌝ }
+{
+    let refusal = soundness::check(head, bt, rt, pt, slab);
+    if refusal != 0 {
+        return report(head, refusal, 0, 0, 0);
+    }
+    run(head, bt, rt, pt, slab, input, answers)
+}
