@@ -140,7 +140,7 @@ module _ {s : Store} {input a₀ : List ℕ} {u : Store} {a : List ℕ} {count a
         λ p. let k : length (answerBytes (step u q .answer)) ≡ 5 + length (pageBytes (step u q .answer .page)) = length-answer (step u q .answer) in
         let k′ : length (answerBytes (step u q .answer)) ≡ 5 + 0 = rw p at k in
         omega arith in
-        subst (λ (x : Store). Over s input a₀ x a 14 count at out) (sym (d ∙ step-answers u q .leaves paged)) (left-full h)
+        subst (λ (x : Store). Over s input a₀ x a 14 count at out) (sym (d ∙ step-answers u q (l .sound) .leaves paged)) (left-full h)
 
     pub left-short : length a₀ - out < 5 → Over s input a₀ u a 14 count at out
     left-short h = left-full (omega (arith, length-answer (step u q .answer)))

@@ -1,45 +1,24 @@
 -- Laws of records in their order.
-use mathlib.Core.Path.{_≡_, refl, ap, sym, _∙_}
+use mathlib.Core.Path.{_≡_, refl, ap, sym}
 use mathlib.Core.Logic.{_⊎_, inl, inr}
 use mathlib.Core.List.{List, [], _∷_}
 use mathlib.Core.Bool.{Bool, true, false, cond}
-use Prim.Native.Nat.{ℕ, zero, suc, _+_, _-_, _≤_, _<_, suc-le-suc}
+use Prim.Native.Nat.{ℕ, zero, suc, _+_, _≤_, _<_, suc-le-suc}
 use native.Mathlib.Nat.{le-of-suc-le-suc, not-suc-le-zero, le-refl}
 use native.Mathlib.Decide.{decLt}
 use native.Mathlib.Omega.{arith}
-use lib.ListN.{length, getD, take}
+use lib.ListN.{length, take}
 use lib.Seq.{getD-take, length-take-le}
 use Rattle.model.specs.declared.Record.{Record}
-use Rattle.model.specs.Store.{_∈_, zero-record}
+use Rattle.model.specs.Store.{zero-record}
 use Rattle.model.specs.Soundness.{precedes}
 use Rattle.model.proofs.Base.{case, absurd-test}
-use Rattle.model.proofs.Latest.{Asc, Before, precedes→, →precedes}
+use Rattle.model.proofs.Latest.{precedes→, →precedes}
 use Rattle.lookup.specs.Order.{upTo}
 use Rattle.model.proofs.ByNumber.{Ascend, entry}
 
-pub entry-mem : (xs : List Record) (k : ℕ) → k < length xs → entry xs k ∈ xs
-entry-mem [] k l = absurd (not-suc-le-zero l)
-entry-mem (x ∷ xs) zero l = inl refl
-entry-mem (x ∷ xs) (suc k) l = inr (entry-mem xs k (le-of-suc-le-suc l))
-
-asc-at : (xs : List Record) → Asc xs → (i j : ℕ) → i < j → j < length xs → precedes (entry xs i) (entry xs j) ≡ true
-asc-at [] a i j h l = absurd (not-suc-le-zero l)
-asc-at (x ∷ xs) a i zero h l = absurd (not-suc-le-zero h)
-asc-at (x ∷ xs) a zero (suc j) h l = a .0 (entry xs j) (entry-mem xs j (le-of-suc-le-suc l))
-asc-at (x ∷ xs) a (suc i) (suc j) h l = asc-at xs (a .1) i j (le-of-suc-le-suc h) (le-of-suc-le-suc l)
-
 ordered : (q r : Record) → precedes q r ≡ true → (q .address ≤ r .address) × (q .address ≡ r .address → q .moment < r .moment)
 ordered q r e = elim (precedes→ q r e .order) [ inl h ↦ (omega arith, λ z. absurd (omega arith)) | inr h ↦ (omega arith, λ z. h .1) ]
-
-pub ascend-of : (rows : List Record) (n : ℕ) → n ≤ length rows → Asc (take n rows) → Ascend rows n
-ascend-of rows n room a =
-    record { addresses = λ i j h l. two i j h l .0; moments = λ i j h l. two i j h l .1 }
-  where
-    two : (i j : ℕ) → i < j → j < n → (entry rows i .address ≤ entry rows j .address) × (entry rows i .address ≡ entry rows j .address → entry rows i .moment < entry rows j .moment)
-    two i j h l =
-        let e : precedes (entry (take n rows) i) (entry (take n rows) j) ≡ true = asc-at (take n rows) a i j h (omega (arith, length-take-le n rows room)) in
-        let d : precedes (entry rows i) (entry rows j) ≡ true = rw (getD-take n rows i zero-record (omega arith), getD-take n rows j zero-record l) at e in
-        ordered (entry rows i) (entry rows j) d
 
 -- a record against (a, t)
 abbrev pub Low : ℕ → ℕ → Record → Type 0

@@ -58,3 +58,7 @@ module _ (slab : List ℕ) (p : ℕ) (page : List ℕ) (whole : length page ≡ 
       (λ e.
       let l : p ≤ q = ltb-false q p e in
       behind q (omega arith))
+
+pub length-page : (slab : List ℕ) (p : ℕ) → 256 * p + 256 ≤ length slab → length (pageAt slab p) ≡ 256
+unfolding pageAt
+length-page slab p h = length-take-le 256 (drop (256 * p) slab) (omega (arith, length-drop (256 * p) slab))

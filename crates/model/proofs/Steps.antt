@@ -8,16 +8,19 @@ use lib.Dec.{leb, ltb}
 use lib.ListN.{length}
 use Rattle.model.specs.declared.Record.{Record}
 use mathlib.Core.Path.{_≡_, refl, subst}
-use Rattle.model.specs.Store.{Store, open-end, foundPage}
+use Rattle.model.specs.Store.{Store, newest, records, open-end, Page, foundPage}
 use Rattle.model.specs.Lookup.{lookup}
 use Rattle.model.specs.Soundness.{tableCheck}
 use Rattle.model.specs.Wire.{Request, write, mark, revert, readAt, reclaim, accepted}
 use Rattle.model.specs.Step.{Stepped, unchanged, standing, firstFree, intoFree, written, doWrite, doMark, doRevert, doRead, doReclaim, step}
 use Rattle.model.specs.Reference.{Snapshot, Reference}
 use Rattle.model.proofs.Base.{case}
+use Rattle.model.proofs.Ancestry.{Found, find→}
+use Rattle.model.proofs.Places.{named-mem}
+use Rattle.model.proofs.Pages.{length-page}
 use Rattle.model.proofs.Invariant.{Sound, sound-check, Reads, Inv, referenceOf, canon}
 use Rattle.model.proofs.Moves.{Stepping, mark-step, revert-step}
-use Rattle.model.proofs.Writing.{write-step}
+use Rattle.model.proofs.Writing.{rows-falls, write-step}
 use Rattle.model.proofs.Reclaiming.{reclaim-step}
 use Rattle.model.proofs.Reading.{read-step}
 use Rattle.model.proofs.Parsing.{Whole}
@@ -40,16 +43,22 @@ step-sound s q h w = step-canon s (λ t a. foundPage (s .slab) (lookup s a t)) q
 pub step-check : (s : Store) (q : Request) → Sound s → Whole q → tableCheck (step s q .store) ≡ 0
 step-check s q h w = sound-check (step s q .store) (step-sound s q h w)
 
--- an answer without a page is five bytes, a request's own refusals are at most 10, and an answer with a page leaves the store
+-- a page of 256 bytes, where there is one
+abbrev pub WholePage : Option Page → Type 0
+WholePage none = Unit {0}
+WholePage (some p) = length (p .bytes) ≡ 256
+
+-- a request's own refusals are at most 10, an answer with a page leaves the store, and a page is whole
 pub record Answers (s : Store) (st : Stepped) : Type 0 where
   pub small : st .answer .refusal ≤ 10
   pub leaves : (st .answer .page ≡ none → ⊥) → st .store ≡ s
+  pub whole : WholePage (st .answer .page)
 
 refused-answers : (s : Store) (n : ℕ) → n ≤ 10 → Answers s (unchanged s n)
-refused-answers s n l = record { small = l; leaves = λ e. refl }
+refused-answers s n l = record { small = l; leaves = λ e. refl; whole = tt }
 
 accepted-answers : (s u : Store) (n : ℕ) → Answers s (record { store = u; answer = accepted n })
-accepted-answers s u n = record { small = omega arith; leaves = λ e. absurd (e refl) }
+accepted-answers s u n = record { small = omega arith; leaves = λ e. absurd (e refl); whole = tt }
 
 if-answers : (s : Store) (b : Bool) (x y : Stepped) → Answers s x → Answers s y → Answers s (cond b x y)
 if-answers s b x y f g = case b (λ e. rw e f) (λ e. rw e g)
@@ -63,20 +72,29 @@ written-answers s a page none =
     free-answers none = refused-answers s 6 (omega arith)
     free-answers (some p) = accepted-answers s _ _
 
-pub step-answers : (s : Store) (q : Request) → Answers s (step s q)
+-- the page found is that of a counted record, whose place is in the place table
+found-whole : (s : Store) → Sound s → (a t : ℕ) (o : Option Record) → lookup s a t ≡ o → WholePage (foundPage (s .slab) o)
+unfolding lookup
+found-whole s h a t none e = tt
+found-whole s h a t (some r) e =
+    let d : Found (records s) a t (newest s) r = find→ (records s) a (newest s) (rows-falls _ _ (newest s) (h .rows)) t r e in
+    length-page (s .slab) (r .place) (omega (arith, named-mem (s .placeRows) 1 (records s) r (h .named) (d .counted), h .sizes .allowed .slab))
+
+pub step-answers : (s : Store) (q : Request) → Sound s → Answers s (step s q)
 unfolding step doWrite doMark doRevert doRead doReclaim
-step-answers s (write a page) = if-answers s (ltb a (s .head .size)) _ _ (written-answers s a page (standing s a)) (refused-answers s 4 (omega arith))
-step-answers s mark = if-answers s (ltb (s .head .now) open-end) _ _ (accepted-answers s _ _) (refused-answers s 10 (omega arith))
-step-answers s (revert m) =
+step-answers s (write a page) h = if-answers s (ltb a (s .head .size)) _ _ (written-answers s a page (standing s a)) (refused-answers s 4 (omega arith))
+step-answers s mark h = if-answers s (ltb (s .head .now) open-end) _ _ (accepted-answers s _ _) (refused-answers s 10 (omega arith))
+step-answers s (revert m) h =
     if-answers s (ltb m (s .head .floor)) _ _ (refused-answers s 8 (omega arith))
     (if-answers s (leb (s .head .now) m) _ _ (refused-answers s 9 (omega arith))
     (if-answers s (leb open-end (s .head .now)) _ _ (refused-answers s 10 (omega arith))
     (if-answers s (leb (length (s .branchRows)) (s .head .branches)) _ _ (refused-answers s 7 (omega arith)) (accepted-answers s _ _))))
-step-answers s (readAt a m) =
+step-answers s (readAt a m) h =
     if-answers s (ltb a (s .head .size)) _ _
     (if-answers s (ltb m (s .head .floor)) _ _ (refused-answers s 8 (omega arith))
-    (if-answers s (ltb (s .head .now) m) _ _ (refused-answers s 9 (omega arith)) (record { small = omega arith; leaves = λ e. refl })))
+    (if-answers s (ltb (s .head .now) m) _ _ (refused-answers s 9 (omega arith))
+    (record { small = omega arith; leaves = λ e. refl; whole = found-whole s h a m (lookup s a m) refl })))
     (refused-answers s 4 (omega arith))
-step-answers s (reclaim m) =
+step-answers s (reclaim m) h =
     if-answers s (ltb m (s .head .floor)) _ _ (refused-answers s 8 (omega arith))
     (if-answers s (ltb (s .head .now) m) _ _ (refused-answers s 9 (omega arith)) (accepted-answers s _ _))

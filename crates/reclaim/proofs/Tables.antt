@@ -27,7 +27,8 @@ use Rattle.branch_marks.specs.Marks.{Filled, bit, wanted, keptBranch}
 use Rattle.record_marks.specs.Marks.{given, keptRecord}
 use Rattle.closing.specs.Closed.{marked, keepBy, renamed, ClosedRecords, ClosedBranches}
 use Rattle.rows.specs.View.{storeOf, steppedOf}
-use Rattle.reclaim.specs.Tables.{Tables, refusedWith}
+use Rattle.reclaim.specs.Tables.{Tables}
+use Rattle.rows.specs.View.{refusedWith}
 use Rattle.rows.specs.declared.Outcome.{Outcome}
 use Rattle.rows.specs.declared.Found.the-variants.{Nothing}
 use Rattle.closing.proofs.Closing.{keepBy-keep, renamed-numbered}

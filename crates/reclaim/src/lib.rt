@@ -13,7 +13,7 @@ ghost use Rattle.rows.specs.Rows.{branchRowsOf, recordRowsOf};
 ghost use Rattle.rows.specs.View.{storeOf, steppedOf};
 ghost use Rattle.branch_marks.specs.Marks.{Filled, Zeros, keptBranch};
 ghost use Rattle.record_marks.specs.Marks.{keptRecord};
-ghost use Rattle.reclaim.specs.Tables.{Tables, refusedWith};
+ghost use Rattle.reclaim.specs.Tables.{Tables};
 
 // Room for a byte of each branch.
 fn branch_bytes() -> [u8; 4096]
@@ -44,28 +44,16 @@ fn mark_all(bt: &[u32], n: usize, rt: &[u32], nr: usize, floor: u32, bm: &mut [u
     record_marks::mark_records(bt, n, &up, rt, nr, floor, rm);
 }
 
-// A refused request: the head stays, the number is 0.
-fn refused(head: Head, refusal: u32) -> Outcome
-    ensures { λ r. ⌜ r ≡ refusedWith head refusal ⌝ }
-{
-    Outcome {
-        head: head,
-        refusal: refusal,
-        value: 0,
-        found: Found::Nothing,
-    }
-}
-
 // Request 5, with refusals 8 and 9 in this order. The answer is the number of records freed.
 pub fn reclaim(head: Head, bt: &mut [u32], rt: &mut [u32], pt: &mut [u32], floor: u32) -> Outcome
     requires { ⌜ Tables head (now bt) (now rt) (now pt) ⌝ }
     ensures { λ r. ⌜ ((slab : List ℕ) → steppedOf r (now (bt .exit)) (now (rt .exit)) (now (pt .exit)) slab ≡ doReclaim (storeOf head (now (bt .entry)) (now (rt .entry)) (now (pt .entry)) slab) floor) ⌝ }
 {
     if floor < head.floor {
-        return refused(head, 8);
+        return rows::refused(head, 8);
     }
     if head.now < floor {
-        return refused(head, 9);
+        return rows::refused(head, 9);
     }
     let n = head.branches as usize;
     let nr = head.records as usize;

@@ -36,3 +36,11 @@ answerOf r slab = record { refusal = r .refusal; value = r .value; page = foundP
 -- an outcome and the tables that it leaves, as the store after a request with its answer
 abbrev pub steppedOf : Outcome → List ℕ → List ℕ → List ℕ → List ℕ → Stepped
 steppedOf r bt rt pt slab = record { store = storeOf (r .head) bt rt pt slab; answer = answerOf r slab }
+
+-- a refused request alters nothing and has number 0
+abbrev pub refusedWith : Head → ℕ → Outcome
+refusedWith head n = record { head = head; refusal = n; value = 0; found = Nothing }
+
+-- an accepted request that gives no page
+abbrev pub acceptedWith : Head → ℕ → Outcome
+acceptedWith head n = record { head = head; refusal = 0; value = n; found = Nothing }

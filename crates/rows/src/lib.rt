@@ -6,6 +6,7 @@ ghost use Rattle.model.specs.Store.{zero-branch, zero-record};
 ghost use mathlib.Core.Path.{_≡_};
 ghost use Prim.Native.Nat.{_+_, _*_, _<_};
 ghost use lib.ListN.{length, getD, set};
+ghost use Rattle.rows.specs.View.{refusedWith, acceptedWith};
 ghost use Rattle.rows.specs.Rows.{branchRowsOf, recordRowsOf};
 
 // What a lookup finds.
@@ -20,6 +21,30 @@ pub struct Outcome {
     pub refusal: u32,
     pub value: u32,
     pub found: Found,
+}
+
+// A refused request: the head as it was, and number 0.
+pub fn refused(head: Head, refusal: u32) -> Outcome
+    ensures { λ r. ⌜ r ≡ refusedWith head refusal ⌝ }
+{
+    Outcome {
+        head,
+        refusal,
+        value: 0,
+        found: Found::Nothing,
+    }
+}
+
+// An accepted request that gives no page.
+pub fn accepted(head: Head, value: u32) -> Outcome
+    ensures { λ r. ⌜ r ≡ acceptedWith head value ⌝ }
+{
+    Outcome {
+        head,
+        refusal: 0,
+        value,
+        found: Found::Nothing,
+    }
 }
 
 pub fn branch_at(t: &[u32], i: usize) -> Branch

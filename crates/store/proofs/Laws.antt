@@ -22,7 +22,8 @@ use Rattle.rows.specs.View.{storeOf, foundOf, steppedOf}
 use Rattle.rows.specs.declared.Found.{Found}
 use Rattle.rows.specs.declared.Outcome.{Outcome}
 use Rattle.rows.proofs.Laws.{record-count, branch-count}
-use Rattle.store.specs.Outcome.{refusedWith, acceptedWith, recordRead}
+use Rattle.store.specs.Outcome.{recordRead}
+use Rattle.rows.specs.View.{refusedWith, acceptedWith}
 use Rattle.store.specs.Asked.{Revertible, Readable}
 
 not-zero : (n : ℕ) → suc n ≡ 0 → ⊥

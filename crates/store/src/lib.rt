@@ -10,32 +10,8 @@ ghost use lib.ListN.{length};
 ghost use Rattle.model.specs.Step.{doMark, doRevert, doRead};
 ghost use Rattle.rows.specs.Rows.{branchRowsOf};
 ghost use Rattle.rows.specs.View.{storeOf, foundOf, steppedOf};
-ghost use Rattle.store.specs.Outcome.{refusedWith, acceptedWith, recordRead};
+ghost use Rattle.store.specs.Outcome.{recordRead};
 ghost use Rattle.store.specs.Asked.{Revertible, Readable};
-
-// A refused request: the head as it was, and number 0.
-pub fn refused(head: Head, refusal: u32) -> Outcome
-    ensures { λ r. ⌜ r ≡ refusedWith head refusal ⌝ }
-{
-    Outcome {
-        head,
-        refusal,
-        value: 0,
-        found: Found::Nothing,
-    }
-}
-
-// An accepted request that gives no page.
-pub fn accepted(head: Head, value: u32) -> Outcome
-    ensures { λ r. ⌜ r ≡ acceptedWith head value ⌝ }
-{
-    Outcome {
-        head,
-        refusal: 0,
-        value,
-        found: Found::Nothing,
-    }
-}
 
 // Seals now; now grows by 1.
 pub fn mark(head: Head) -> Outcome
@@ -43,7 +19,7 @@ pub fn mark(head: Head) -> Outcome
 {
     let current = head.now;
     if 4294967295 <= current {
-        return refused(head, 10);
+        return rows::refused(head, 10);
     }
     let next = current + 1;
     let after = Head {
@@ -53,7 +29,7 @@ pub fn mark(head: Head) -> Outcome
         now: next,
         floor: head.floor,
     };
-    accepted(after, current)
+    rows::accepted(after, current)
 }
 
 // The refusal of a revert to a moment, over a branch table of so many rows; 0 where there is none.
@@ -85,7 +61,7 @@ pub fn revert(head: Head, bt: &mut [u32], m: u32) -> Outcome
 {
     let refusal = revert_refusal(head, bt.len() / 3, m);
     if refusal != 0 {
-        return refused(head, refusal);
+        return rows::refused(head, refusal);
     }
     let sealed = head.now;
     let next = sealed + 1;
@@ -110,7 +86,7 @@ pub fn revert(head: Head, bt: &mut [u32], m: u32) -> Outcome
         now: next,
         floor: head.floor,
     };
-    accepted(after, sealed)
+    rows::accepted(after, sealed)
 }
 
 // The record whose page the address a has at the moment m.
@@ -121,13 +97,13 @@ pub fn read(head: Head, bt: &[u32], rt: &[u32], a: u32, m: u32) -> Outcome
 {
     let last = head.now;
     if head.size <= a {
-        return refused(head, 4);
+        return rows::refused(head, 4);
     }
     if m < head.floor {
-        return refused(head, 8);
+        return rows::refused(head, 8);
     }
     if last < m {
-        return refused(head, 9);
+        return rows::refused(head, 9);
     }
     let nb = head.branches as usize;
     let nr = head.records as usize;

@@ -3,10 +3,10 @@ use Prim.Native.Nat.{ℕ, _+_, _*_, _≤_}
 use mathlib.Core.Path.{_≡_}
 use mathlib.Core.List.{List, _++_, append-nil}
 use native.Mathlib.Omega.{arith}
-use lib.ListN.{length, drop, length-append, length-drop}
-use lib.Seq.{length-take-le}
+use lib.ListN.{length, length-append}
 use Rattle.model.specs.declared.Record.{Record}
 use Rattle.model.specs.Store.{pageAt}
+use Rattle.model.proofs.Pages.{length-page}
 use Rattle.model.specs.Wire.{answerBytes}
 use Rattle.model.proofs.Packing.{length-bytes}
 use Rattle.rows.specs.declared.Found.the-variants.{Row, Nothing}
@@ -17,10 +17,6 @@ use Rattle.wire.specs.Answers.{headBytes, Lies, sent}
 pub length-head : (refusal present value : ℕ) → length (headBytes refusal present value) ≡ 5
 unfolding headBytes
 length-head refusal present value = length-bytes 5 _
-
-pub length-page : (slab : List ℕ) (p : ℕ) → 256 * p + 256 ≤ length slab → length (pageAt slab p) ≡ 256
-unfolding pageAt
-length-page slab p h = length-take-le 256 (drop (256 * p) slab) (omega (arith, length-drop (256 * p) slab))
 
 module _ (r : Outcome) (slab : List ℕ) where
   pub sent-none : r .found ≡ Nothing → sent r slab ≡ headBytes (r .refusal) 0 (r .value)

@@ -27,7 +27,7 @@ use Rattle.rows.specs.View.{storeOf, steppedOf}
 use Rattle.model.proofs.ByNumber.{Ascend, entry}
 use Rattle.lookup.proofs.Laws.{Bracket}
 use Rattle.lookup.proofs.Walk.{Span, span-start, latest-here, latest-low, latest-other, latest-end}
-use Rattle.store.specs.Outcome.{refusedWith, acceptedWith}
+use Rattle.rows.specs.View.{refusedWith, acceptedWith}
 use Rattle.writing.specs.Free.{freeOf}
 use Rattle.writing.specs.declared.Free.{Free}
 use Rattle.writing.specs.declared.Free.the-variants.{At}

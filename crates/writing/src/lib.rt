@@ -125,11 +125,11 @@ fn write_new(
     let present = head.now;
     let n = head.records as usize;
     if rt.len() / 3 <= n {
-        return store::refused(head, 5);
+        return rows::refused(head, 5);
     }
     let free = first_free(pt);
     let Free::At(p) = free else {
-        return store::refused(head, 6);
+        return rows::refused(head, 6);
     };
     let row = at as u32;
     let r = Record {
@@ -148,7 +148,7 @@ fn write_new(
         now: present,
         floor: head.floor,
     };
-    store::accepted(after, present)
+    rows::accepted(after, present)
 }
 
 // The page at (a, now): in the place of the record that stands there, else in a free one.
@@ -166,7 +166,7 @@ pub fn write(
 {
     let present = head.now;
     if head.size <= a {
-        return store::refused(head, 4);
+        return rows::refused(head, 4);
     }
     let n = head.records as usize;
     let c = lookup::up_to(rt, n, a, present);

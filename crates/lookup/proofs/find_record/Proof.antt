@@ -13,7 +13,8 @@ use Rattle.rows.specs.Rows.{recordRowsOf, branchRowsOf}
 use Rattle.rows.proofs.Laws.{record-count, branch-count}
 use Rattle.model.proofs.ByNumber.{newestOf}
 use Rattle.model.proofs.ByNumber.{Ascend}
-use Rattle.lookup.proofs.Laws.{ascend-of, bracket-of}
+use Rattle.model.proofs.ByNumber.{asc-ascend}
+use Rattle.lookup.proofs.Laws.{bracket-of}
 use Rattle.lookup.proofs.Walk.{Span, span-start, span-less, latest-here, latest-low, latest-other, latest-end, find-not, find-end, falls-at, Held, walk-found, walk-on}
 use Rattle.lookup.proofs.find_record.Statement.{statement}
 use Rattle.lookup.proofs.find_record.Tie as tie
@@ -47,7 +48,7 @@ roomy : (s : tie.Start Inv-recs μ-recs Inv-rows μ-rows) → s .args .nb ≤ le
 roomy s = omega (arith, branch-count (now (s .args .bt)), s .pre .0)
 
 up : (s : tie.Start Inv-recs μ-recs Inv-rows μ-rows) → Ascend (recordRowsOf (now (s .args .rt))) (s .args .nr)
-up s = ascend-of (recordRowsOf (now (s .args .rt))) (s .args .nr) (room s) (s .pre .1 .0)
+up s = asc-ascend (recordRowsOf (now (s .args .rt))) (s .args .nr) (room s) (s .pre .1 .0)
 
 -- src/lib.rt:52:9
 rows-holds : tie.Need-rows-holds Inv-recs μ-recs Inv-rows μ-rows

@@ -7,7 +7,8 @@ use lib.ListN.{length}
 use Rattle.model.specs.declared.Record.{Record}
 use Rattle.rows.specs.Rows.{recordRowsOf}
 use Rattle.rows.proofs.Laws.{record-count, branch-count}
-use Rattle.lookup.proofs.Laws.{Bracket, ascend-of, bracket-start, bracket-up, bracket-down, bracket-end}
+use Rattle.model.proofs.ByNumber.{asc-ascend}
+use Rattle.lookup.proofs.Laws.{Bracket, bracket-start, bracket-up, bracket-down, bracket-end}
 use Rattle.lookup.proofs.up_to.Statement.{statement}
 use Rattle.lookup.proofs.up_to.Tie as tie
 use Rattle.lookup.proofs.up_to.Reads as reads
@@ -47,7 +48,7 @@ loop-again c =
     let s = l .before .before in
     let rt = now (s .args .rt) in
     let q = ap (λ (r : Record). r .address) (c .before .before .record-at .ensures) in
-    bracket-down (recordRowsOf rt) (s .args .n) (s .args .a) (s .args .t) (ascend-of (recordRowsOf rt) (s .args .n) (omega (arith, record-count rt, s .pre .0)) (s .pre .1)) (l .loop .lo) (l .loop .hi) (l .loop .lo + (l .loop .hi - l .loop .lo) / 2) (l .loop .inv) (omega arith) (omega arith)
+    bracket-down (recordRowsOf rt) (s .args .n) (s .args .a) (s .args .t) (asc-ascend (recordRowsOf rt) (s .args .n) (omega (arith, record-count rt, s .pre .0)) (s .pre .1)) (l .loop .lo) (l .loop .hi) (l .loop .lo + (l .loop .hi - l .loop .lo) / 2) (l .loop .inv) (omega arith) (omega arith)
     (omega (arith, q), λ z. absurd (omega (arith, q, z)))
 
 -- src/lib.rt:32:18
@@ -66,7 +67,7 @@ loop-again-2 c =
     let s = l .before .before in
     let rt = now (s .args .rt) in
     let q = ap (λ (r : Record). r .address) (b .record-at .ensures) in
-    bracket-up (recordRowsOf rt) (s .args .n) (s .args .a) (s .args .t) (ascend-of (recordRowsOf rt) (s .args .n) (omega (arith, record-count rt, s .pre .0)) (s .pre .1)) (l .loop .lo) (l .loop .hi) (l .loop .lo + (l .loop .hi - l .loop .lo) / 2) (l .loop .inv) (omega (arith, l)) (omega (arith, l, b .before))
+    bracket-up (recordRowsOf rt) (s .args .n) (s .args .a) (s .args .t) (asc-ascend (recordRowsOf rt) (s .args .n) (omega (arith, record-count rt, s .pre .0)) (s .pre .1)) (l .loop .lo) (l .loop .hi) (l .loop .lo + (l .loop .hi - l .loop .lo) / 2) (l .loop .inv) (omega (arith, l)) (omega (arith, l, b .before))
     (omega (arith, q, c .if2), λ z. absurd (omega (arith, q, z, c .if2)))
 
 -- src/lib.rt:26:5
@@ -82,7 +83,7 @@ loop-again-3 c =
     let rt = now (s .args .rt) in
     let q = ap (λ (r : Record). r .address) (b .record-at .ensures) in
     let p = ap (λ (r : Record). r .moment) (b .record-at .ensures) in
-    bracket-down (recordRowsOf rt) (s .args .n) (s .args .a) (s .args .t) (ascend-of (recordRowsOf rt) (s .args .n) (omega (arith, record-count rt, s .pre .0)) (s .pre .1)) (l .loop .lo) (l .loop .hi) (l .loop .lo + (l .loop .hi - l .loop .lo) / 2) (l .loop .inv) (omega (arith, l)) (omega (arith, l, b .before))
+    bracket-down (recordRowsOf rt) (s .args .n) (s .args .a) (s .args .t) (asc-ascend (recordRowsOf rt) (s .args .n) (omega (arith, record-count rt, s .pre .0)) (s .pre .1)) (l .loop .lo) (l .loop .hi) (l .loop .lo + (l .loop .hi - l .loop .lo) / 2) (l .loop .inv) (omega (arith, l)) (omega (arith, l, b .before))
     (omega (arith, q, c .before .before .if2), λ z. omega (arith, p, c .if3))
 
 -- src/lib.rt:36:18
@@ -102,7 +103,7 @@ loop-again-4 c =
     let rt = now (s .args .rt) in
     let q = ap (λ (r : Record). r .address) (b .record-at .ensures) in
     let p = ap (λ (r : Record). r .moment) (b .record-at .ensures) in
-    bracket-up (recordRowsOf rt) (s .args .n) (s .args .a) (s .args .t) (ascend-of (recordRowsOf rt) (s .args .n) (omega (arith, record-count rt, s .pre .0)) (s .pre .1)) (l .loop .lo) (l .loop .hi) (l .loop .lo + (l .loop .hi - l .loop .lo) / 2) (l .loop .inv) (omega (arith, l)) (omega (arith, l, b .before))
+    bracket-up (recordRowsOf rt) (s .args .n) (s .args .a) (s .args .t) (asc-ascend (recordRowsOf rt) (s .args .n) (omega (arith, record-count rt, s .pre .0)) (s .pre .1)) (l .loop .lo) (l .loop .hi) (l .loop .lo + (l .loop .hi - l .loop .lo) / 2) (l .loop .inv) (omega (arith, l)) (omega (arith, l, b .before))
     (omega (arith, q, c .before .before .before .before .if1), λ z. omega (arith, p, c .if3))
 
 -- src/lib.rt:19:1

@@ -2,8 +2,6 @@ use Rattle.store.proofs.Laws.{mark-late, mark-done}
 use borrow.Author.Needs.{needs}
 use Rattle.store.proofs.mark.Statement.{statement}
 use Rattle.store.proofs.mark.Tie as tie
-use Rattle.store.proofs.accepted.Reads as accepted-reads
-use Rattle.store.proofs.refused.Reads as refused-reads
 
 refused-requires : tie.Need-refused-requires
 refused-requires c κs = search needs

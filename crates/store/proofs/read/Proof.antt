@@ -4,7 +4,6 @@ use borrow.Author.Needs.{needs}
 use Rattle.store.proofs.read.Statement.{statement}
 use Rattle.store.proofs.read.Tie as tie
 use Rattle.lookup.proofs.find_record.Reads as find-record-reads
-use Rattle.store.proofs.refused.Reads as refused-reads
 
 refused-requires : tie.Need-refused-requires
 refused-requires c κs = search needs

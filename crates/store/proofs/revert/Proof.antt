@@ -7,8 +7,6 @@ use Rattle.store.proofs.revert.Statement.{statement}
 use Rattle.store.proofs.revert.Tie as tie
 use Rattle.rows.proofs.branch_at.Reads as branch-at-reads
 use Rattle.rows.proofs.set_branch.Reads as set-branch-reads
-use Rattle.store.proofs.accepted.Reads as accepted-reads
-use Rattle.store.proofs.refused.Reads as refused-reads
 use Rattle.store.proofs.revert_refusal.Reads as revert-refusal-reads
 
 revert-refusal-requires : tie.Need-revert-refusal-requires

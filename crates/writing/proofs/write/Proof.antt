@@ -12,7 +12,6 @@ use borrow.Author.Needs.{needs}
 use Rattle.writing.proofs.write.Statement.{statement}
 use Rattle.writing.proofs.write.Tie as tie
 use Rattle.lookup.proofs.up_to.Reads as up-to-reads
-use Rattle.store.proofs.refused.Reads as refused-reads
 use Rattle.writing.proofs.put_page.Reads as put-page-reads
 use Rattle.writing.proofs.standing.Reads as standing-reads
 use Rattle.writing.proofs.write_new.Reads as write-new-reads

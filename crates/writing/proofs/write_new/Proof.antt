@@ -10,8 +10,6 @@ use Rattle.writing.proofs.Laws.{Taking, taking-of, write-full, write-no
 use borrow.Author.Needs.{needs}
 use Rattle.writing.proofs.write_new.Statement.{statement}
 use Rattle.writing.proofs.write_new.Tie as tie
-use Rattle.store.proofs.accepted.Reads as accepted-reads
-use Rattle.store.proofs.refused.Reads as refused-reads
 use Rattle.writing.proofs.first_free.Reads as first-free-reads
 use Rattle.writing.proofs.insert_row.Reads as insert-row-reads
 use Rattle.writing.proofs.put_page.Reads as put-page-reads
