@@ -1,0 +1,79 @@
+-- A fresh store over the program's tables, and a batch for it.
+use mathlib.Core.Path.{_≡_, ap, _∙_}
+use mathlib.Core.List.{List}
+use mathlib.Core.Bool.{true}
+use Prim.Native.Nat.{ℕ, _≤_}
+use native.Mathlib.Omega.{arith}
+use lib.ListN.{length, drop, length-append}
+use Rattle.model.specs.declared.Head.{Head}
+use Rattle.model.specs.Store.{Store}
+use Rattle.model.specs.Batch.{batch}
+use Rattle.rows.specs.View.{storeOf}
+use Rattle.rows.proofs.Laws.{branch-count, record-count}
+use Rattle.soundness.specs.Check.{wholeRows}
+use Rattle.soundness.proofs.Sizes.{→lengths, →whole}
+use Rattle.fresh.specs.declared.Made.{Made}
+use Rattle.fresh.specs.Fresh.{Fresh}
+use Rattle.fresh.proofs.Fresh.{allowed, made-lengths, store-made}
+use Rattle.batch.specs.declared.Done.{Done}
+use Rattle.batch.specs.Batch.{batchOf, Leaves}
+use Rattle.cabinet.specs.declared.Reply.{Reply}
+use Rattle.cabinet.specs.Session.{TableLengths, atStart, Replies}
+use Rattle.cabinet.proofs.Stops.{batch-small}
+
+module _ {bt rt pt slab : List ℕ} (l : TableLengths bt rt pt slab) where
+  sizes : allowed 64 bt rt pt slab ≡ true
+  sizes =
+      →lengths
+      (record {
+        branches = rw (l .branches);
+        records = rw (l .records);
+        allowed =
+            record {
+              size-low = omega arith;
+              size-high = omega arith;
+              branches-low = omega (arith, l .branches);
+              branches-high = omega (arith, l .branches);
+              records-low = omega (arith, l .records);
+              records-high = omega (arith, l .records);
+              places-low = omega (arith, l .places);
+              places-high = omega (arith, l .places);
+              slab = omega (arith, l .places, l .slab-bytes);
+            };
+      })
+
+  module _ {head : Head} {r : Made} {bt′ rt′ pt′ : List ℕ} (f : Fresh head 64 bt rt pt slab r bt′ rt′ pt′) where
+    started : storeOf (r .head) bt′ rt′ pt′ slab ≡ atStart slab
+    started = store-made f sizes ∙ rw (branch-count bt, record-count rt, l .branches, l .records, l .places)
+
+    whole : wholeRows (length bt′) (length rt′) ≡ true
+    whole =
+        →whole bt′ rt′
+        (record {
+          branches = omega (arith, made-lengths f sizes .0, l .branches);
+          records = omega (arith, made-lengths f sizes .1, l .records);
+        })
+
+    pub run-is : (input : List ℕ) (space : ℕ) → batchOf (r .head) bt′ rt′ pt′ slab input space ≡ batch (atStart slab) input space
+    unfolding batchOf
+    run-is input space = rw (whole, started)
+
+    -- what the batch leaves, as the reply
+    module _ (input : List ℕ) {area area′ bt″ rt″ pt″ slab″ : List ℕ} {done : Done}
+        (v : Leaves (batchOf (r .head) bt′ rt′ pt′ slab input (length area)) bt′ rt′ area done bt″ rt″ pt″ slab″ area′) where
+      pub stop-byte : done .stop ≤ 14
+      stop-byte = rw (v .stop, run-is input (length area)) (batch-small (atStart slab) input (length area))
+
+      pub replies : Replies (atStart slab) input area (record { stop = done .stop; sent = done .sent }) area′
+      replies =
+          record {
+            stop = v .stop ∙ rw (run-is input (length area));
+            sent = v .sent ∙ rw (run-is input (length area));
+            answers = v .answers ∙ rw (run-is input (length area));
+          }
+
+-- the answers stand in the answer area
+pub sent-within : {s : Store} {input area area′ : List ℕ} {r : Reply} → Replies s input area r area′ → r .sent ≤ length area′
+sent-within {s} {input} {area} {area′} {r} p =
+    let out : List ℕ = batch s input (length area) .out in
+    omega (arith, p .sent, ap length (p .answers), length-append out (drop (length out) area))

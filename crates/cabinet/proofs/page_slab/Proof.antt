@@ -1,0 +1,12 @@
+-- `cabinet::page_slab` meets its contract.
+use mathlib.Core.Path.{refl}
+use Rattle.cabinet.specs.Session.{zeroSlab}
+use Rattle.cabinet.proofs.page_slab.Statement.{statement}
+use Rattle.cabinet.proofs.page_slab.Tie as tie
+
+returns : tie.Need-returns
+unfolding zeroSlab
+returns c = refl
+
+pub page-slab-spec : {M : Type 1} → statement M
+page-slab-spec = tie.close (tie.spec returns)
