@@ -34,8 +34,6 @@ abbrev pub withSlab : Store → List ℕ → Store
 withSlab s sl =
     record { head = s .head; branchRows = s .branchRows; recordRows = s .recordRows; placeRows = s .placeRows; slab = sl }
 
--- write
-
 -- the record at (address, now), which a write overwrites
 abbrev pub standing : Store → ℕ → Option Record
 standing s a = latest (records s) a (s .head .now) (s .head .now)
@@ -87,8 +85,6 @@ written s a page none =
 unfoldable pub doWrite : Store → ℕ → List ℕ → Stepped
 doWrite s a page = cond (ltb a (s .head .size)) (written s a page (standing s a)) (unchanged s 4)
 
--- mark
-
 unfoldable pub doMark : Store → Stepped
 doMark s =
     cond (ltb (s .head .now) open-end)
@@ -97,8 +93,6 @@ doMark s =
       answer = accepted (s .head .now);
     })
     (unchanged s 10)
-
--- revert
 
 -- a branch row with now sealed as its end
 abbrev pub closedAt : ℕ → Branch → Branch
@@ -126,8 +120,6 @@ doRevert s m =
     (cond (leb (length (s .branchRows)) (s .head .branches)) (unchanged s 7)
     (record { store = branched s m; answer = accepted (s .head .now) }))))
 
--- read
-
 unfoldable pub doRead : Store → ℕ → ℕ → Stepped
 doRead s a m =
     cond (ltb a (s .head .size))
@@ -135,8 +127,6 @@ doRead s a m =
     (cond (ltb (s .head .now) m) (unchanged s 9)
     (record { store = s; answer = record { refusal = 0; value = m; page = foundPage (s .slab) (lookup s a m) } })))
     (unchanged s 4)
-
--- reclaim
 
 -- a place row after a reclaim: a kept record is named by one more than the kept ones before it; any other row is free
 abbrev pub renumbered : (Record → Bool) → List Record → ℕ → ℕ
