@@ -9,11 +9,12 @@ use Rattle.model.specs.declared.Head.{Head}
 use Rattle.model.specs.Store.{Store}
 use Rattle.model.specs.Batch.{batch}
 use Rattle.rows.specs.View.{storeOf}
-use Rattle.rows.proofs.Laws.{branch-count, record-count}
+use Rattle.rows.proofs.Laws.{branch-kind, record-kind, branch-count, record-count}
 use Rattle.soundness.specs.Check.{wholeRows}
 use Rattle.soundness.proofs.Sizes.{→lengths, →whole}
 use Rattle.fresh.specs.declared.Made.{Made}
 use Rattle.fresh.specs.Fresh.{Fresh}
+use Rattle.fresh.proofs.Relaid.{relaid-over}
 use Rattle.fresh.proofs.Fresh.{allowed, made-lengths, store-made}
 use Rattle.batch.specs.declared.Done.{Done}
 use Rattle.batch.specs.Batch.{batchOf, Leaves}
@@ -58,19 +59,33 @@ module _ {bt rt pt slab : List ℕ} (l : TableLengths bt rt pt slab) where
     unfolding batchOf
     run-is input space = rw (whole, started)
 
-    -- what the batch leaves, as the reply
-    module _ (input : List ℕ) {area area′ bt″ rt″ pt″ slab″ : List ℕ} {done : Done}
-        (v : Leaves (batchOf (r .head) bt′ rt′ pt′ slab input (length area)) bt′ rt′ area done bt″ rt″ pt″ slab″ area′) where
-      pub stop-byte : done .stop ≤ 14
-      stop-byte = rw (v .stop, run-is input (length area)) (batch-small (atStart slab) input (length area))
+    -- what the batch on the tables leaves is what the model's batch on the fresh store says
+    pub leaves : (input : List ℕ) {area area′ bt″ rt″ pt″ slab″ : List ℕ} {done : Done}
+        → Leaves (batchOf (r .head) bt′ rt′ pt′ slab input (length area)) bt′ rt′ area done bt″ rt″ pt″ slab″ area′
+        → Leaves (batch (atStart slab) input (length area)) bt rt area done bt″ rt″ pt″ slab″ area′
+    leaves input {area} {area′} {bt″} {rt″} {pt″} {slab″} {done} v =
+        let w = rw (run-is input (length area)) at v in
+        record {
+          stop = w .stop;
+          answered = w .answered;
+          taken = w .taken;
+          sent = w .sent;
+          head = w .head;
+          branches = w .branches ∙ relaid-over branch-kind bt bt′ _ (made-lengths f sizes .0) (rw (l .branches));
+          records = w .records ∙ relaid-over record-kind rt rt′ _ (made-lengths f sizes .1) (rw (l .records));
+          places = w .places;
+          slab = w .slab;
+          answers = w .answers;
+        }
 
-      pub replies : Replies (atStart slab) input area (record { stop = done .stop; sent = done .sent }) area′
-      replies =
-          record {
-            stop = v .stop ∙ rw (run-is input (length area));
-            sent = v .sent ∙ rw (run-is input (length area));
-            answers = v .answers ∙ rw (run-is input (length area));
-          }
+-- what a batch leaves, as the program's reply; the stop number fits a byte
+module _ (s : Store) (input : List ℕ) {bt rt area bt′ rt′ pt′ slab′ area′ : List ℕ} {done : Done}
+    (v : Leaves (batch s input (length area)) bt rt area done bt′ rt′ pt′ slab′ area′) where
+  pub stop-byte : done .stop ≤ 14
+  stop-byte = rw (v .stop) (batch-small s input (length area))
+
+  pub replies : Replies s input area (record { stop = done .stop; sent = done .sent }) area′
+  replies = record { stop = v .stop; sent = v .sent; answers = v .answers }
 
 -- the answers stand in the answer area
 pub sent-within : {s : Store} {input area area′ : List ℕ} {r : Reply} → Replies s input area r area′ → r .sent ≤ length area′

@@ -15,9 +15,9 @@ pub record TableLengths (bt rt pt slab : List ℕ) : Type 0 where
   pub places : length pt ≡ 128
   pub slab-bytes : length slab ≡ 32768
 
--- the slab as the program makes it
-unfoldable pub zeroSlab : List ℕ
-zeroSlab = replicate 32768 0
+-- n zeros: the tables and the slab as the program makes them
+unfoldable pub zeros : ℕ → List ℕ
+zeros n = replicate n 0
 
 -- the store that the program starts with: A 64, 16 branches, 128 records, 128 free places
 abbrev pub atStart : List ℕ → Store

@@ -1,10 +1,10 @@
 -- Rows laid over a table are that table's rows afterwards.
-use mathlib.Core.Path.{_≡_, sym, ap, _∙_}
+use mathlib.Core.Path.{_≡_, refl, sym, ap, _∙_}
 use mathlib.Core.List.{List, [], _∷_, _++_, append-assoc}
-use Prim.Native.Nat.{ℕ, zero, suc, _+_, _*_, _/_, _≤_, _<_}
-use native.Mathlib.Nat.{suc-mul, zero-mul, div-mul-le-self}
+use Prim.Native.Nat.{ℕ, zero, suc, _+_, _*_, _/_, _%_, _≤_, _<_}
+use native.Mathlib.Nat.{suc-mul, zero-mul, div-mul-le-self, div-add-mod'}
 use native.Mathlib.Omega.{arith}
-use lib.ListN.{length, getD, drop, length-append, length-drop, List·getD-append}
+use lib.ListN.{length, getD, drop, length-append, length-drop, drop-of-length-le, List·getD-append}
 use lib.Seq.{ext-getD, getD-append-add}
 use Rattle.rows.specs.Rows.{rowsBy, flat, relaid}
 use Rattle.rows.proofs.Laws.{Kind, rows-length, rows-get}
@@ -48,3 +48,13 @@ module _ {A : Type 0} (K : Kind A) where
         let i< : i < length xs = omega (arith, rows-length K u, n) in
         rows-get K u i d (omega (arith, n))
         ∙ (K .same _ _ (λ j l. flat-get xs (drop (length t / K .width * K .width) t) i j d i< l) ∙ K .back (getD xs i d)))
+
+  -- over tables of whole rows and of one length, rows laid make one table
+  pub relaid-over : (t u : List ℕ) (xs : List A) → length u ≡ length t → length t % K .width ≡ 0 → relaid (K .width) (K .fields) xs u ≡ relaid (K .width) (K .fields) xs t
+  relaid-over t u xs l e =
+      let whole : (v : List ℕ) → length v ≡ length t → drop (length v / K .width * K .width) v ≡ [] =
+      λ v m.
+      let long : length v ≤ length v / K .width * K .width =
+      omega (arith, div-add-mod' (length t) (K .width), ap (λ (x : ℕ). x / K .width * K .width) m) in
+      drop-of-length-le v long in
+      rw (whole u l, whole t refl)

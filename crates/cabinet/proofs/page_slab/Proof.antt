@@ -1,11 +1,11 @@
 -- `cabinet::page_slab` meets its contract.
 use mathlib.Core.Path.{refl}
-use Rattle.cabinet.specs.Session.{zeroSlab}
+use Rattle.cabinet.specs.Session.{zeros}
 use Rattle.cabinet.proofs.page_slab.Statement.{statement}
 use Rattle.cabinet.proofs.page_slab.Tie as tie
 
 returns : tie.Need-returns
-unfolding zeroSlab
+unfolding zeros
 returns c = refl
 
 pub page-slab-spec : {M : Type 1} → statement M

@@ -1,7 +1,6 @@
 -- `cabinet::serve_fresh` meets its contract: what `make` leaves is the fresh store, and the batch is the model's on it.
 use borrow.Author.Needs.{needs}
-use native.Mathlib.Omega.{arith}
-use Rattle.cabinet.proofs.Serving.{stop-byte, replies}
+use Rattle.cabinet.proofs.Serving.{leaves}
 use Rattle.cabinet.proofs.serve_fresh.Statement.{statement}
 use Rattle.cabinet.proofs.serve_fresh.Tie as tie
 
@@ -10,13 +9,6 @@ make-requires c κs = search needs
 
 batch-requires : tie.Need-batch-requires
 batch-requires c κs = search needs
-
-cast-t29 : tie.Need-cast-t29
-cast-t29 c =
-    let b = c .before .before .before .before .before .before .before .before .before .before .before in
-    let m = b .before .before .before .before .before .before .before .before .before .before .before .before .before in
-    let s = m .before .before .before .before .before .before .before .before .before .before .before in
-    omega (arith, stop-byte (s .pre) (m .make .ensures) (s .args .input .now) (b .batch .ensures))
 
 same-length : tie.Need-same-length
 same-length c = search needs
@@ -35,10 +27,10 @@ same-length-5 c = search needs
 
 returns : tie.Need-returns
 returns c =
-    let b = c .before .before .before .before .before .before .before .before .before .before .before in
+    let b = c .before .before .before .before .before .before .before .before .before .before in
     let m = b .before .before .before .before .before .before .before .before .before .before .before .before .before in
     let s = m .before .before .before .before .before .before .before .before .before .before .before in
-    replies (s .pre) (m .make .ensures) (s .args .input .now) (b .batch .ensures)
+    leaves (s .pre) (m .make .ensures) (s .args .input .now) (b .batch .ensures)
 
 pub serve-fresh-spec : {M : Type 1} → statement M
 serve-fresh-spec =
@@ -46,7 +38,6 @@ serve-fresh-spec =
     (tie.spec
     make-requires
     batch-requires
-    cast-t29
     same-length
     same-length-2
     same-length-3

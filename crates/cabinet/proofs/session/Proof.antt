@@ -1,5 +1,8 @@
 -- `cabinet::session` meets its contract: its tables have the lengths that `serve_fresh` asks.
 use borrow.Author.Needs.{needs}
+use native.Mathlib.Omega.{arith}
+use Rattle.cabinet.specs.Session.{zeros, atStart}
+use Rattle.cabinet.proofs.Serving.{stop-byte, replies}
 use Rattle.cabinet.proofs.session.Statement.{statement}
 use Rattle.cabinet.proofs.session.Tie as tie
 
@@ -27,13 +30,20 @@ slice-aggregate-serve-fresh-4 c = search needs
 serve-fresh-requires : tie.Need-serve-fresh-requires
 serve-fresh-requires c κs = search needs
 
+cast-t21 : tie.Need-cast-t21
+cast-t21 c =
+    let f = c .before .before .before .before .before .before .before in
+    let s = f .before .before .before .before .before .before .before .before .before .before .before in
+    omega (arith, stop-byte (atStart (f .before .before .before .before .before .before .page-slab .result)) (s .args .input .now) (f .serve-fresh .ensures))
+
 same-length : tie.Need-same-length
 same-length c = search needs
 
 returns : tie.Need-returns
 returns c =
-    let f = c .before .before .before .before .before .before in
-    rw (f .before .before .before .before .before .before .page-slab .ensures) at (f .serve-fresh .ensures)
+    let f = c .before .before .before .before .before .before .before in
+    let s = f .before .before .before .before .before .before .before .before .before .before .before in
+    replies (atStart (zeros 32768)) (s .args .input .now) (rw (f .before .before .before .before .before .before .page-slab .ensures) at (f .serve-fresh .ensures))
 
 pub session-spec : {M : Type 1} → statement M
 session-spec =
@@ -47,5 +57,6 @@ session-spec =
     slice-aggregate-serve-fresh-3
     slice-aggregate-serve-fresh-4
     serve-fresh-requires
+    cast-t21
     same-length
     returns)

@@ -1,0 +1,12 @@
+-- `cabinet::record_rows` meets its contract.
+use mathlib.Core.Path.{refl}
+use Rattle.cabinet.specs.Session.{zeros}
+use Rattle.cabinet.proofs.record_rows.Statement.{statement}
+use Rattle.cabinet.proofs.record_rows.Tie as tie
+
+returns : tie.Need-returns
+unfolding zeros
+returns c = refl
+
+pub record-rows-spec : {M : Type 1} → statement M
+record-rows-spec = tie.close (tie.spec returns)
