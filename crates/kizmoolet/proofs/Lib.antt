@@ -1,0 +1,3 @@
+pub mod Areas
+pub mod Fresh
+pub mod Batch

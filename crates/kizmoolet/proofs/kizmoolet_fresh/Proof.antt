@@ -1,0 +1,42 @@
+use mathlib.Core.Path.{sym, _∙_}
+use borrow.Author.Tests.{not-true, not-false}
+use Rattle.kizmoolet.proofs.Fresh.{fresh-unfit}
+use Rattle.kizmoolet.proofs.kizmoolet_fresh.Statement.{statement}
+use Rattle.kizmoolet.proofs.kizmoolet_fresh.Tie as tie
+
+lengths-fit-requires : tie.Need-lengths-fit-requires
+lengths-fit-requires c κs = tt
+
+returns : tie.Need-returns
+returns c = fresh-unfit _ _ (sym (c .before .lengths-fit .ensures) ∙ not-true _ (c .if1 .taken))
+
+fresh-areas-requires : tie.Need-fresh-areas-requires
+fresh-areas-requires c κs = sym (c .before .before .before .before .before .lengths-fit .ensures) ∙ not-false _ (c .before .before .before .before .if1 .left)
+
+same-length : tie.Need-same-length
+same-length c = c .before .before .before .before .before .before .before .before .fresh-areas .kept .1 .0
+
+same-length-2 : tie.Need-same-length-2
+same-length-2 c = c .before .before .before .before .before .before .before .before .fresh-areas .kept .1 .1 .0
+
+same-length-3 : tie.Need-same-length-3
+same-length-3 c = c .before .before .before .before .before .before .before .before .fresh-areas .kept .1 .1 .1 .0
+
+same-length-4 : tie.Need-same-length-4
+same-length-4 c = c .before .before .before .before .before .before .before .before .fresh-areas .kept .1 .1 .1 .1 .0
+
+returns-2 : tie.Need-returns-2
+returns-2 c = c .before .before .before .before .before .before .before .before .fresh-areas .ensures
+
+pub kizmoolet-fresh-spec : {M : Type 1} → statement M
+kizmoolet-fresh-spec =
+    tie.close
+    (tie.spec
+    lengths-fit-requires
+    returns
+    fresh-areas-requires
+    same-length
+    same-length-2
+    same-length-3
+    same-length-4
+    returns-2)

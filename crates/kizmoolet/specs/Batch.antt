@@ -1,0 +1,57 @@
+-- A batch on areas of bytes.
+use mathlib.Core.Path.{_≡_}
+use mathlib.Core.List.{List}
+use mathlib.Core.Bool.{true, cond}
+use Prim.Native.Nat.{ℕ, zero, suc}
+use lib.ListN.{length}
+use Rattle.model.specs.Soundness.{tableCheck}
+use Rattle.model.specs.Batch.{Run, answeredCount, requestCount, answerCount, areaAfter, batch}
+use Rattle.batch.specs.declared.Done.{Done}
+use Rattle.kizmoolet.specs.Lent.{Lent, fits, storeIn, withStore, Stored}
+
+-- what a batch leaves: the stop number, requests answered, the bytes of those requests, the bytes of their answers,
+-- the areas of the store, and the answer area
+pub record BatchLeft : Type 0 where
+  pub stop : ℕ
+  pub answered : ℕ
+  pub requestBytes : ℕ
+  pub answerBytes : ℕ
+  pub areas : Lent
+  pub answers : List ℕ
+
+abbrev pub batchLeft : ℕ → ℕ → ℕ → ℕ → Lent → List ℕ → BatchLeft
+batchLeft stop answered requestBytes answerBytes areas answers =
+    record { stop = stop; answered = answered; requestBytes = requestBytes; answerBytes = answerBytes; areas = areas; answers = answers }
+
+-- the refusal of the table checks, 0 where there is none; a length that does not fit is 1
+unfoldable pub checkIn : Lent → ℕ
+checkIn l = cond (fits l) (tableCheck (storeIn l)) 1
+
+-- a run, with its store put into the areas
+abbrev pub runLeft : Run → Lent → List ℕ → BatchLeft
+runLeft r l area = batchLeft (r .stop) (answeredCount r) (requestCount r) (answerCount r) (withStore l (r .store)) (areaAfter r area)
+
+-- where the tables pass the checks, the model's batch on the store that the areas hold;
+-- else the refusal is the stop number, the counts are zero, and every area is as it was
+unfoldable pub batchBytes : Lent → List ℕ → List ℕ → BatchLeft
+batchBytes l input area = serve (checkIn l)
+  where
+    serve : ℕ → BatchLeft
+    serve zero = runLeft (batch (storeIn l) input (length area)) l area
+    serve (suc n) = batchLeft (suc n) 0 0 0 l area
+
+-- what a call leaves is as the definition says; and where the lengths fit, the areas hold the store that the model's batch leaves
+pub record BatchDone (l : Lent) (input area : List ℕ) (left : BatchLeft) : Type 0 where
+  pub all : left ≡ batchBytes l input area
+  pub store : fits l ≡ true → storeIn (left .areas) ≡ batch (storeIn l) input (length area) .store
+
+-- a run on tables of bytes b, r and p, a slab and an answer area: what it reports and leaves
+pub record RunTables (run : Run) (b r area : List ℕ) (d : Done) (b′ r′ p′ slab′ area′ : List ℕ) : Type 0 where
+  pub stop : d .stop ≡ run .stop
+  pub answered : d .answered ≡ answeredCount run
+  pub taken : d .taken ≡ requestCount run
+  pub sent : d .sent ≡ answerCount run
+  pub head : d .head ≡ run .store .head
+  pub tables : Stored (run .store) b r b′ r′ p′
+  pub slab : slab′ ≡ run .store .slab
+  pub answers : area′ ≡ areaAfter run area

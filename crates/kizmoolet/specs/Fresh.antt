@@ -1,0 +1,37 @@
+-- Making a fresh store in areas of bytes.
+use mathlib.Core.Path.{_≡_}
+use mathlib.Core.List.{List}
+use mathlib.Core.Bool.{true, cond, _&&_}
+use Prim.Native.Nat.{ℕ}
+use lib.Dec.{eqb}
+use lib.ListN.{length}
+use Rattle.model.specs.declared.Head.{Head}
+use Rattle.model.specs.Fresh.{freshCheck, madeFresh}
+use Rattle.fresh.specs.declared.Made.{Made}
+use Rattle.fresh.specs.Fresh.{refusalOf, freshOf}
+use Rattle.tables.specs.Numbers.{numbersOf}
+use Rattle.kizmoolet.specs.Lent.{Lent, fits, storeIn, withStore, Stored}
+
+-- what making a fresh store leaves: its result, and the areas
+pub record FreshLeft : Type 0 where
+  pub result : ℕ
+  pub areas : Lent
+
+abbrev pub freshLeft : ℕ → Lent → FreshLeft
+freshLeft result areas = record { result = result; areas = areas }
+
+-- a fresh store of `size` pages in the areas, with result 0; where a length or the size is not allowed, 1, and the areas as they were
+unfoldable pub freshBytes : ℕ → Lent → FreshLeft
+freshBytes size l =
+    cond (fits l && eqb (freshCheck (storeIn l) size) 0) (freshLeft 0 (withStore l (madeFresh (storeIn l) size))) (freshLeft 1 l)
+
+-- what a call leaves is as the definition says; and where the lengths fit, the areas hold the model's store
+pub record FreshDone (size : ℕ) (l : Lent) (left : FreshLeft) : Type 0 where
+  pub all : left ≡ freshBytes size l
+  pub store : fits l ≡ true → storeIn (left .areas) ≡ madeFresh (storeIn l) size
+
+-- a fresh store made of tables of bytes b, r and p, for the head h
+pub record FreshTables (h : Head) (size : ℕ) (b r p slab : List ℕ) (m : Made) (b′ r′ p′ : List ℕ) : Type 0 where
+  pub refusal : m .refusal ≡ refusalOf size (length (numbersOf b)) (length (numbersOf r)) (length (numbersOf p)) (length slab)
+  pub head : m .head ≡ freshOf h (numbersOf b) (numbersOf r) (numbersOf p) slab size .head
+  pub tables : Stored (freshOf h (numbersOf b) (numbersOf r) (numbersOf p) slab size) b r b′ r′ p′

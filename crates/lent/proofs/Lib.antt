@@ -1,0 +1,7 @@
+pub mod Again
+pub mod Local
+pub mod Ifs
+pub mod Loading
+pub mod Lending
+pub mod Starting
+pub mod Table

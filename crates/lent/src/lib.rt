@@ -1,0 +1,189 @@
+// The lent forms: the head by `&mut`, and the branch table as a slice of rows.
+use fresh::Made;
+use model::Branch;
+use model::Head;
+ghost use mathlib.Core.Path.{_≡_};
+ghost use mathlib.Core.List.{_++_};
+ghost use Prim.Native.Nat.{_*_, _%_, _<_, _≤_};
+ghost use lib.ListN.{length, getD, set, take, drop};
+ghost use Rattle.model.specs.Store.{zero-branch};
+ghost use Rattle.lent.specs.Lent.{lentBatch, BatchLeaves, lentFresh, lentRefusal, FreshLeaves, freshBatch};
+ghost use Rattle.rows.specs.Rows.{flat, branchWidth, branchFields, branchRowsOf};
+
+// One row of a lent branch table.
+pub fn branch_row(rows: &[Branch], i: usize) -> Branch
+    requires { ⌜ i < length (now rows) ⌝ }
+    ensures { λ r. ⌜ r ≡ getD (now (rows .entry)) i zero-branch ⌝ }
+{
+    rows[i]
+}
+
+// One row of a lent branch table is set.
+pub fn set_branch_row(rows: &mut [Branch], i: usize, b: Branch)
+    requires { ⌜ i < length (now rows) ⌝ }
+    ensures { λ _. ⌜ now (rows .exit) ≡ set (now (rows .entry)) i b ⌝ }
+{
+    rows[i] = b;
+}
+
+// All rows, laid flat at the start of a table; the rest of the table stays.
+pub fn load_rows(rows: &[Branch], table: &mut [u32])
+    requires { ⌜ (length (now rows) * branchWidth ≤ length (now table)) × (length (now table) % branchWidth ≡ 0) ⌝ }
+    ensures { λ _. ⌜ now (table .exit) ≡ flat branchFields (now (rows .entry)) ++ drop (length (now (rows .entry)) * branchWidth) (now (table .entry)) ⌝ }
+{
+    let mut i: usize = 0;
+    while i < rows.len() {
+        rows::set_branch(table, i, branch_row(rows, i));
+        i += 1;
+    }
+}
+
+// As many rows as are lent, out of the start of a flat table.
+pub fn store_rows(rows: &mut [Branch], table: &[u32])
+    requires { ⌜ length (now rows) * branchWidth ≤ length (now table) ⌝ }
+    ensures { λ _. ⌜ now (rows .exit) ≡ take (length (now (rows .entry))) (branchRowsOf (now (table .entry))) ⌝ }
+{
+    let mut i: usize = 0;
+    while i < rows.len() {
+        set_branch_row(rows, i, rows::branch_at(table, i));
+        i += 1;
+    }
+}
+
+// What a batch reports: the stop number, the requests answered, their bytes, and the bytes of their answers.
+pub struct Report {
+    pub stop: u32,
+    pub answered: usize,
+    pub taken: usize,
+    pub sent: usize,
+}
+
+// A head with a report.
+pub struct Ended {
+    pub head: Head,
+    pub report: Report,
+}
+
+// The core's batch, on the first `count` rows of a flat table.
+pub fn batch_rows(
+    head: Head,
+    count: usize,
+    table: &mut [u32],
+    rt: &mut [u32],
+    pt: &mut [u32],
+    slab: &mut [u8],
+    input: &[u8],
+    answers: &mut [u8],
+) -> Ended
+    requires { ⌜ count * branchWidth ≤ length (now table) ⌝ }
+    ensures { λ r. ⌜ (drop (count * branchWidth) (now (table .exit)) ≡ drop (count * branchWidth) (now (table .entry))) × BatchLeaves (lentBatch head (take count (branchRowsOf (now (table .entry)))) (now (rt .entry)) (now (pt .entry)) (now (slab .entry)) (now (input .entry)) (length (now (answers .entry)))) (now (rt .entry)) (now (answers .entry)) (r .report) (r .head) (take count (branchRowsOf (now (table .exit)))) (now (rt .exit)) (now (pt .exit)) (now (slab .exit)) (now (answers .exit)) ⌝ }
+{
+    let end = count * 3;
+    let done = batch::batch(head, &mut table[..end], rt, pt, slab, input, answers);
+    let after = done.head;
+    Ended {
+        head: after,
+        report: Report {
+            stop: done.stop,
+            answered: done.answered,
+            taken: done.taken,
+            sent: done.sent,
+        },
+    }
+}
+
+// The core's fresh store, over the first `count` rows of a flat table.
+pub fn fresh_rows(
+    head: Head,
+    size: u32,
+    count: usize,
+    table: &mut [u32],
+    rt: &mut [u32],
+    pt: &mut [u32],
+    slab: &[u8],
+) -> Made
+    requires { ⌜ count * branchWidth ≤ length (now table) ⌝ }
+    ensures { λ r. ⌜ (drop (count * branchWidth) (now (table .exit)) ≡ drop (count * branchWidth) (now (table .entry))) × FreshLeaves (lentRefusal head (take count (branchRowsOf (now (table .entry)))) (now (rt .entry)) (now (pt .entry)) (now (slab .entry)) size) (lentFresh head (take count (branchRowsOf (now (table .entry)))) (now (rt .entry)) (now (pt .entry)) (now (slab .entry)) size) (now (rt .entry)) (r .refusal) (r .head) (take count (branchRowsOf (now (table .exit)))) (now (rt .exit)) (now (pt .exit)) ⌝ }
+{
+    let end = count * 3;
+    fresh::make(head, size, &mut table[..end], rt, pt, slab)
+}
+
+// A batch on what is lent, whatever it holds; the head is the caller's, and is brought up to date.
+pub fn run_batch(
+    head: &mut Head,
+    branches: &mut [Branch],
+    rt: &mut [u32],
+    pt: &mut [u32],
+    slab: &mut [u8],
+    input: &[u8],
+    answers: &mut [u8],
+) -> Report
+    ensures { λ r. ⌜ BatchLeaves (lentBatch (now (head .entry)) (now (branches .entry)) (now (rt .entry)) (now (pt .entry)) (now (slab .entry)) (now (input .entry)) (length (now (answers .entry)))) (now (rt .entry)) (now (answers .entry)) r (now (head .exit)) (now (branches .exit)) (now (rt .exit)) (now (pt .exit)) (now (slab .exit)) (now (answers .exit)) ⌝ }
+{
+    if 4096 < branches.len() {
+        return Report {
+            stop: 1,
+            answered: 0,
+            taken: 0,
+            sent: 0,
+        };
+    }
+    let mut table = [0u32; 12288];
+    load_rows(branches, &mut table);
+    let done = batch_rows(*head, branches.len(), &mut table, rt, pt, slab, input, answers);
+    store_rows(branches, &table);
+    *head = done.head;
+    done.report
+}
+
+// A fresh store of `size` pages over what is lent, whatever it holds; 0, or the refusal.
+pub fn make_fresh(
+    head: &mut Head,
+    size: u32,
+    branches: &mut [Branch],
+    rt: &mut [u32],
+    pt: &mut [u32],
+    slab: &[u8],
+) -> u32
+    ensures { λ r. ⌜ FreshLeaves (lentRefusal (now (head .entry)) (now (branches .entry)) (now (rt .entry)) (now (pt .entry)) (now (slab .entry)) size) (lentFresh (now (head .entry)) (now (branches .entry)) (now (rt .entry)) (now (pt .entry)) (now (slab .entry)) size) (now (rt .entry)) r (now (head .exit)) (now (branches .exit)) (now (rt .exit)) (now (pt .exit)) ⌝ }
+{
+    if 4096 < branches.len() {
+        return 1;
+    }
+    let mut table = [0u32; 12288];
+    load_rows(branches, &mut table);
+    let made = fresh_rows(*head, size, branches.len(), &mut table, rt, pt, slab);
+    store_rows(branches, &table);
+    *head = made.head;
+    made.refusal
+}
+
+// A batch on a fresh store of `size` pages and 16 branch rows. Its own parameters are numbers and slices of numbers, so that whoever calls it is covered: head and rows lie in locals, which are lent.
+pub fn fresh_batch(
+    size: u32,
+    rt: &mut [u32],
+    pt: &mut [u32],
+    slab: &mut [u8],
+    input: &[u8],
+    answers: &mut [u8],
+) -> Ended
+    ensures { λ r. ⌜ BatchLeaves (freshBatch size (now (rt .entry)) (now (pt .entry)) (now (slab .entry)) (now (input .entry)) (length (now (answers .entry)))) (now (rt .entry)) (now (answers .entry)) (r .report) (r .head) (freshBatch size (now (rt .entry)) (now (pt .entry)) (now (slab .entry)) (now (input .entry)) (length (now (answers .entry))) .store .branchRows) (now (rt .exit)) (now (pt .exit)) (now (slab .exit)) (now (answers .exit)) ⌝ }
+{
+    let mut head = Head {
+        size: 0,
+        branches: 0,
+        records: 0,
+        now: 0,
+        floor: 0,
+    };
+    let row = Branch {
+        start: 0,
+        end: 0,
+        cut: 0,
+    };
+    let mut branches = [row; 16];
+    make_fresh(&mut head, size, &mut branches, rt, pt, slab);
+    let report = run_batch(&mut head, &mut branches, rt, pt, slab, input, answers);
+    Ended { head, report }
+}

@@ -1,0 +1,11 @@
+use mathlib.Core.Path.{refl}
+use Rattle.lent_main.specs.Session.{zeros}
+use Rattle.lent_main.proofs.page_slab.Statement.{statement}
+use Rattle.lent_main.proofs.page_slab.Tie as tie
+
+returns : tie.Need-returns
+unfolding zeros
+returns c = refl
+
+pub page-slab-spec : {M : Type 1} → statement M
+page-slab-spec = tie.close (tie.spec returns)

@@ -1,0 +1,11 @@
+use mathlib.Core.Path.{refl}
+use Rattle.lent_main.specs.Session.{zeros}
+use Rattle.lent_main.proofs.record_rows.Statement.{statement}
+use Rattle.lent_main.proofs.record_rows.Tie as tie
+
+returns : tie.Need-returns
+unfolding zeros
+returns c = refl
+
+pub record-rows-spec : {M : Type 1} → statement M
+record-rows-spec = tie.close (tie.spec returns)

@@ -1,0 +1,59 @@
+// The worked session P1 to P10 as one batch on a fresh store, through the lent forms. Standard input holds its requests;
+// the answers go to standard output, then the report and the head, a line each.
+use lent::Ended;
+ghost use mathlib.Core.Path.{_≡_};
+ghost use lib.ListN.{length};
+ghost use Rattle.lent_main.specs.Session.{zeros, Replies};
+
+fn page_slab() -> [u8; 32768]
+    ensures { λ r. ⌜ r ≡ zeros 32768 ⌝ }
+{
+    [0u8; 32768]
+}
+
+fn record_rows() -> [u32; 384]
+    ensures { λ r. ⌜ r ≡ zeros 384 ⌝ }
+{
+    [0u32; 384]
+}
+
+fn place_rows() -> [u32; 128]
+    ensures { λ r. ⌜ r ≡ zeros 128 ⌝ }
+{
+    [0u32; 128]
+}
+
+// The input as one batch on a fresh store of 64 pages, 16 branches, 128 records and 128 places.
+fn session(input: &[u8], answers: &mut [u8]) -> Ended
+    ensures { λ r. ⌜ Replies (now (input .entry)) (now (answers .entry)) r (now (answers .exit)) ⌝ }
+{
+    let mut records = record_rows();
+    let mut places = place_rows();
+    let mut slab = page_slab();
+    lent::fresh_batch(64, &mut records, &mut places, &mut slab, input, answers)
+}
+
+fn line(name: &[u8], n: u64) {
+    io::write_all(1, name);
+    io::print_decimal(1, n);
+    io::write_all(1, b"\n");
+}
+
+fn main() {
+    let mut input = io::large_buffer();
+    let n = io::read_full(0, &mut input);
+    let mut answers = io::large_buffer();
+    let ended = session(&input[..n], &mut answers);
+    let head = ended.head;
+    let report = ended.report;
+    let sent = report.sent;
+    io::write_all(1, &answers[..sent]);
+    line(b"\nstop ", report.stop as u64);
+    line(b"answered ", report.answered as u64);
+    line(b"taken ", report.taken as u64);
+    line(b"sent ", report.sent as u64);
+    line(b"branches ", head.branches as u64);
+    line(b"records ", head.records as u64);
+    line(b"now ", head.now as u64);
+    line(b"floor ", head.floor as u64);
+}

@@ -1,0 +1,41 @@
+use borrow.Author.Needs.{needs}
+use Rattle.tables.proofs.load.Statement.{statement}
+use Rattle.tables.proofs.load.Tie as tie
+
+get-all-requires : tie.Need-get-all-requires
+get-all-requires c κs = search needs
+
+get-all-requires-2 : tie.Need-get-all-requires-2
+get-all-requires-2 c κs = search needs
+
+get-all-requires-3 : tie.Need-get-all-requires-3
+get-all-requires-3 c κs = search needs
+
+same-length : tie.Need-same-length
+same-length c = search needs
+
+same-length-2 : tie.Need-same-length-2
+same-length-2 c = search needs
+
+same-length-3 : tie.Need-same-length-3
+same-length-3 c = search needs
+
+returns : tie.Need-returns
+returns c =
+    record {
+      branches = c .before .before .before .before .before .before .before .before .before .before .get-all .ensures;
+      records = c .before .before .before .before .before .before .get-all2 .ensures;
+      places = c .before .before .get-all3 .ensures;
+    }
+
+pub load-spec : {M : Type 1} → statement M
+load-spec =
+    tie.close
+    (tie.spec
+    get-all-requires
+    get-all-requires-2
+    get-all-requires-3
+    same-length
+    same-length-2
+    same-length-3
+    returns)

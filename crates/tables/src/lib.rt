@@ -1,0 +1,137 @@
+// Head and tables as bytes, four a number, most significant first.
+use model::Head;
+ghost use mathlib.Core.Path.{_≡_};
+ghost use Prim.Native.Nat.{_*_};
+ghost use lib.ListN.{length};
+ghost use Rattle.tables.specs.Numbers.{numbersOf, Written, headOf, headNumbers};
+ghost use Rattle.tables.specs.Tables.{lengthsFit, Room, Loaded, Saved};
+
+// The numbers that the bytes of src spell.
+pub fn get_all(src: &[u8], dst: &mut [u32])
+    requires { ⌜ length (now src) ≡ length (now dst) * 4 ⌝ }
+    ensures { λ _. ⌜ now (dst .exit) ≡ numbersOf (now (src .entry)) ⌝ }
+{
+    for i in 0..dst.len() {
+        let at = i * 4;
+        dst[i] = wire::get_number(&src[at..at + 4]) as u32;
+    }
+}
+
+// The bytes of the numbers of src.
+pub fn put_all(src: &[u32], dst: &mut [u8])
+    requires { ⌜ length (now dst) ≡ length (now src) * 4 ⌝ }
+    ensures { λ _. ⌜ Written (now (src .entry)) (now (dst .exit)) ⌝ }
+{
+    for i in 0..src.len() {
+        let at = i * 4;
+        wire::put_number(&mut dst[at..], src[i]);
+    }
+}
+
+// The head that twenty bytes spell.
+pub fn get_head(head: &[u8]) -> Head
+    requires { ⌜ length (now head) ≡ 20 ⌝ }
+    ensures { λ r. ⌜ r ≡ headOf (numbersOf (now (head .entry))) ⌝ }
+{
+    let mut ns = [0u32; 5];
+    get_all(head, &mut ns);
+    Head {
+        size: ns[0],
+        branches: ns[1],
+        records: ns[2],
+        now: ns[3],
+        floor: ns[4],
+    }
+}
+
+// A head as twenty bytes.
+pub fn put_head(head: &mut [u8], h: Head)
+    requires { ⌜ length (now head) ≡ 20 ⌝ }
+    ensures { λ _. ⌜ Written (headNumbers h) (now (head .exit)) ⌝ }
+{
+    let ns = [h.size, h.branches, h.records, h.now, h.floor];
+    put_all(&ns, head);
+}
+
+// Whether the lengths in bytes of a head and of the three tables are such as may be lent.
+pub fn lengths_fit(h: usize, b: usize, r: usize, p: usize) -> bool
+    ensures { λ k. ⌜ k ≡ lengthsFit h b r p ⌝ }
+{
+    if h != 20 {
+        return false;
+    }
+    if b % 12 != 0 {
+        return false;
+    }
+    if 49152 < b {
+        return false;
+    }
+    if r % 12 != 0 {
+        return false;
+    }
+    if 786432 < r {
+        return false;
+    }
+    if p % 4 != 0 {
+        return false;
+    }
+    if 262144 < p {
+        return false;
+    }
+    true
+}
+
+// The numbers of the three tables.
+pub fn load(
+    branches: &[u8],
+    records: &[u8],
+    places: &[u8],
+    bt: &mut [u32],
+    rt: &mut [u32],
+    pt: &mut [u32],
+)
+    requires { ⌜ Room (length (now branches)) (length (now records)) (length (now places)) (length (now bt)) (length (now rt)) (length (now pt)) ⌝ }
+    ensures { λ _. ⌜ Loaded (now (branches .entry)) (now (records .entry)) (now (places .entry)) (now (bt .exit)) (now (rt .exit)) (now (pt .exit)) ⌝ }
+{
+    get_all(branches, bt);
+    get_all(records, rt);
+    get_all(places, pt);
+}
+
+// The bytes of the three tables.
+pub fn save(
+    bt: &[u32],
+    rt: &[u32],
+    pt: &[u32],
+    branches: &mut [u8],
+    records: &mut [u8],
+    places: &mut [u8],
+)
+    requires { ⌜ Room (length (now branches)) (length (now records)) (length (now places)) (length (now bt)) (length (now rt)) (length (now pt)) ⌝ }
+    ensures { λ _. ⌜ Saved (now (bt .entry)) (now (rt .entry)) (now (pt .entry)) (now (branches .exit)) (now (records .exit)) (now (places .exit)) ⌝ }
+{
+    put_all(bt, branches);
+    put_all(rt, records);
+    put_all(pt, places);
+}
+
+// Room for as many branch rows as may be lent.
+pub fn branch_room() -> [u32; 12288]
+    ensures { λ r. ⌜ length r ≡ 12288 ⌝ }
+{
+    [0u32; 12288]
+}
+
+// Room for as many record rows as may be lent.
+pub fn record_room() -> [u32; 196608]
+    ensures { λ r. ⌜ length r ≡ 196608 ⌝ }
+{
+    [0u32; 196608]
+}
+
+// Room for as many place rows as may be lent.
+pub fn place_room() -> [u32; 65536]
+    ensures { λ r. ⌜ length r ≡ 65536 ⌝ }
+{
+    [0u32; 65536]
+}

@@ -1,0 +1,123 @@
+/*
+ * Kizmoolet: the page history of a volume, in areas that the caller lends.
+ *
+ * A volume is 1 to 65,536 pages of 256 bytes. A store keeps every sealed state of it: moments are numbered from 0, the
+ * present one, now, is open, and a write goes there. All memory is the caller's; a call keeps nothing from one to the next,
+ * allocates nothing, opens nothing, and always returns.
+ *
+ * What both functions do, for all lengths and all bytes, is proved: crates/kizmoolet in the repository, definitions
+ * freshBytes and batchBytes. That holds for callers who keep the duties below.
+ *
+ *
+ * THE CALLER'S DUTIES
+ *
+ * 1. Each pointer and the length behind it name an area of that many bytes that may be read; areas passed without const, and
+ *    the three counts, may also be written. A null pointer only with length 0, and never for a count.
+ * 2. No two areas overlap, and none overlaps a count. Two read-only areas may.
+ * 3. Nobody else writes to the areas during a call, or reads those that it may change. Calls on different stores may run at
+ *    the same time.
+ * 4. About 1.3 MB of stack are free: the tables' numbers stand there during the call (1.1 MB). The usual 8 MB of a main
+ *    thread are enough; a thread with a small stack is not.
+ * 5. Head, tables and slab belong to the caller, who keeps them between calls as the last call left them, and passes the same
+ *    five areas, with the same lengths, to the next. A copy of the five areas is a copy of the store.
+ *
+ * No other duty: wrong lengths and any contents are refused and change nothing.
+ *
+ *
+ * THE FIVE AREAS OF A STORE
+ *
+ * Every number of head and tables is four bytes, most significant first.
+ *
+ *   head      20 bytes: volume size A (1 to 65,536), branch count, record count, now, floor. A batch brings it up to date.
+ *             The floor is the earliest moment that can still be read.
+ *   branches  12 bytes a row, 1 to 4,096 rows: start, end, cut. Start and end are the first and last moment of the branch
+ *             (the end of the open one is 4,294,967,295), the cut is the moment reverted to.
+ *   records   12 bytes a row, 1 to 65,536 rows: address, moment, place. Ascending by address, then moment.
+ *   places    4 bytes a row, 1 to 65,536 rows: 0 is free, k means that record row k - 1 (counted from 0) uses the place.
+ *   slab      256 bytes for each place, no more and no fewer: the pages.
+ *
+ * The rows lent are the length of a table; the head's counts say how many of them are in use. A record is needed for each
+ * page written at each moment, and a branch for each revert, until a reclaim frees them.
+ *
+ *
+ * REQUESTS, one behind the other in a batch
+ *
+ * Packed fields, most significant first: operation 3 bits, address 16, moment 32, spare 5; 7 bytes. Fields that an operation
+ * does not use are zero.
+ *
+ *   1 write    address; the page's 256 bytes follow    puts the page at now                    answer: now
+ *   2 mark                                             seals now, which grows by 1             answer: the sealed moment
+ *   3 revert   moment                                  seals now; the volume is as at moment   answer: the sealed moment, which
+ *                                                                                              is the one to name to undo it
+ *   4 read     address, moment                         the page at that moment                 answer: the moment asked, and the
+ *                                                                                              page if there is one
+ *   5 reclaim  moment                                  makes it the floor, frees what no read  answer: how many records it freed
+ *                                                      from there to now gives
+ *
+ * ANSWERS, one behind the other in the answer area, in the order of the requests
+ *
+ * Packed fields: refusal 6 bits (0: accepted), page present 1, spare 1 (zero), number 32; 5 bytes. A present page's 256 bytes
+ * follow. A refusal has number 0. What lies past the answers is not written.
+ *
+ *
+ * THE NUMBERS
+ *
+ * The result of a call is 0 or the number of what refused or stopped it. 4 to 10 are never a result: they stand in a
+ * request's answer, and the batch goes on. A refused request alters nothing.
+ *
+ *   result of kizmoolet_fresh (1) and kizmoolet_batch (1, 2, 3); nothing is written but the counts, which are zero
+ *    1  head, counts or lengths outside their ranges, a table no whole number of rows, or floor above now
+ *    2  branch rows not sound
+ *    3  records or places not sound
+ *
+ *   refusal in an answer
+ *    4  write, read: address at or above A
+ *    5  write: it needs a row, and the record table is full
+ *    6  write: it needs a place, and none is free
+ *    7  revert: the branch table is full
+ *    8  read, revert, reclaim: moment below the floor
+ *    9  read, reclaim: moment above now; revert: moment now or above
+ *   10  mark, revert: now is 4,294,967,295
+ *
+ *   result of kizmoolet_batch at a request that is not carried out; the requests before it stand
+ *   11  request or page cut short
+ *   12  operation 0, 6 or 7
+ *   13  spare bits, or a field that the operation does not use, are not zero
+ *   14  the answer that results, a refusal's 5 bytes too, is longer than what is left of the answer area
+ *
+ * Where several apply: 1, 2, 3 in this order; of a request 11 (fewer than 7 bytes), 12, 13, 11 (page), then its own refusals
+ * (write 4, 5, 6; read 4, 8, 9; revert 8, 9, 10, 7; reclaim 8, 9; mark 10), then 14.
+ */
+#ifndef KIZMOOLET_H
+#define KIZMOOLET_H
+
+#include <stddef.h>
+#include <stdint.h>
+
+#ifdef __cplusplus
+extern "C" {
+#endif
+
+/*
+ * Makes a fresh store of `size` pages in the five areas, whatever they hold: now 0, floor 0, no page. The slab is not written.
+ * Result: 0; or 1, and nothing is changed, where the size or a length is out of range.
+ */
+uint32_t kizmoolet_fresh(uint32_t size, uint8_t *head, size_t head_len, uint8_t *branches, size_t branches_len,
+    uint8_t *records, size_t records_len, uint8_t *places, size_t places_len, uint8_t *slab, size_t slab_len);
+
+/*
+ * Checks the tables, then carries out the requests of a batch in order, each on the store that the last one left.
+ * Result: 0 where all requests were answered, else the number at which the batch stopped.
+ * Always written, zero where the result is 1, 2 or 3: the requests answered, refused ones included; the bytes of those
+ * requests, which is where in the batch the next one begins; and the bytes of their answers.
+ */
+uint32_t kizmoolet_batch(uint8_t *head, size_t head_len, uint8_t *branches, size_t branches_len,
+    uint8_t *records, size_t records_len, uint8_t *places, size_t places_len, uint8_t *slab, size_t slab_len,
+    const uint8_t *batch, size_t batch_len, uint8_t *answers, size_t answers_len,
+    uint64_t *answered, uint64_t *request_bytes, uint64_t *answer_bytes);
+
+#ifdef __cplusplus
+}
+#endif
+
+#endif
