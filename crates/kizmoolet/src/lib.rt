@@ -63,8 +63,8 @@ fn fresh_areas(
         &mut rt[..nr],
         &mut pt[..np],
     );
-    let last = made.head;
-    tables::put_head(head, last);
+    let new = made.head;
+    tables::put_head(head, new);
     made.refusal
 }
 
