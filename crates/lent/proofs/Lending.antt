@@ -1,31 +1,30 @@
 -- What the core does with the first rows of a flat table, said of those rows; and what too many rows are refused with.
 use mathlib.Core.Path.{_≡_, refl, sym, ap, _∙_}
-use mathlib.Core.Bool.{true, false, cond, _&&_}
-use mathlib.Core.List.{List, [], _∷_, _++_}
-use Prim.Native.Nat.{ℕ, _+_, _*_, _/_, _%_, _≤_, _<_}
-use native.Mathlib.Nat.{mul-mod-left, mul-div-cancel}
+use mathlib.Core.Bool.{true, false, _&&_}
+use mathlib.Core.List.{List, _++_}
+use Prim.Native.Nat.{ℕ, _*_, _%_, _≤_, _<_}
+use native.Mathlib.Nat.{mul-mod-left}
 use native.Mathlib.Omega.{arith}
 use borrow.Author.Tests.{leb-true}
-use lib.Dec.{leb, eqb}
+use lib.Dec.{leb}
 use lib.ListN.{length, take, drop, length-append, length-drop}
 use lib.Seq.{length-take-le, drop-at}
 use Rattle.model.specs.declared.Head.{Head}
 use Rattle.model.specs.declared.Branch.{Branch}
 use Rattle.model.specs.Store.{Store}
 use Rattle.model.specs.Soundness.{sizesAllowed, inRange, tableCheck, between}
-use Rattle.model.specs.Batch.{Run, batch, ended}
+use Rattle.model.specs.Batch.{batch, ended}
 use Rattle.model.specs.Fresh.{freshCheck, madeFresh}
 use Rattle.model.proofs.Base.{case, and→}
-use Rattle.rows.specs.Rows.{branchRowsOf, recordRowsOf, branchTable, recordTable}
+use Rattle.rows.specs.Rows.{branchRowsOf, recordRowsOf, branchTable}
 use Rattle.rows.specs.View.{storeOf}
-use Rattle.rows.proofs.Laws.{branch-kind, record-kind, branch-count, relaid-own}
+use Rattle.rows.proofs.Laws.{branch-kind, record-kind, relaid-own}
 use Rattle.soundness.specs.Check.{wholeRows, allowedOf}
 use Rattle.soundness.proofs.Checked.{allowed-rows}
 use Rattle.batch.specs.declared.Done.{Done}
 use Rattle.batch.specs.Batch.{batchOf, Leaves}
 use Rattle.fresh.specs.declared.Made.{Made}
 use Rattle.fresh.specs.Fresh.{freshOf, refusalOf, Fresh}
-use Rattle.lent.specs.declared.Report.{Report}
 use Rattle.lent.specs.Lent.{lentStore, wholeRecords, lentBatch, lentFresh, lentRefusal, BatchLeaves, FreshLeaves}
 use Rattle.lent.proofs.Loading.{front-rows, relaid-first}
 

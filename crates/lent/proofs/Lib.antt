@@ -1,4 +1,5 @@
 pub mod Again
+pub mod Offset
 pub mod Local
 pub mod Ifs
 pub mod Loading

@@ -13,7 +13,7 @@ use lib.Seq.{sets, sets-eq, length-sets, length-take-le, take-suc, take-at, drop
 use Rattle.rows.specs.Rows.{tab, rowAt, rowsBy, flat, relaid}
 use Rattle.rows.proofs.Tab.{tab-ext}
 use Rattle.fresh.proofs.Relaid.{rows-relaid}
-use Rattle.rows.proofs.Laws.{Kind, rows-length, rows-get, rows-put, relaid-rows}
+use Rattle.rows.proofs.Laws.{Kind, rows-length, rows-put, relaid-rows}
 
 take-tab : {A : Type 0} (n m : ℕ) (f : ℕ → A) → n ≤ m → take n (tab m f) ≡ tab n f
 unfolding tab

@@ -9,7 +9,7 @@
 --     big-lit          a constant that MIR writes as `intBig`
 -- n is a variable throughout, so nothing here computes with a long array.
 -- Assumes `Given`.
-use mathlib.Core.Path.{_≡_, refl, sym, subst}
+use mathlib.Core.Path.{refl, sym, subst}
 use Prim.Native.Nat.{ℕ, zero, suc}
 use mathlib.Core.List.{List, [], _∷_}
 use lib.Dec.{T}
@@ -22,7 +22,7 @@ use base.Logic.{SProp, ent, sep, ex, emp, via, guardI}
 use base.Fml.{Lft, GName, Fml, fsep, fat, froom, fdead, flent}
 use prog.Wp.{Heap, Env}
 use ghost.Atoms.{Atoms, sem}
-use types.Kit.{Given, Item, ‵, raw, _⊛_, later, some, _$_, _∵_, !, qed, by, move, keep, drop, use0, use1, use3, fsplit, fjoin, fpick, fpack, feqL, feqI, await, updating, now as at-once, done}
+use types.Kit.{Given, Item, ‵, later, _$_, _∵_, !, qed, by, move, keep, use1, use3, fsplit, fjoin, fpick, fpack, feqL, feqI, await, updating, now as at-once, done}
 use types.Run.{Opd}
 use types.SemTy.{cells, Arr}
 use types.Share.{arr-parts}

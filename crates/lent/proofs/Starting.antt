@@ -1,19 +1,15 @@
 -- A batch on a store that was just made, in one step.
 use mathlib.Core.Path.{_≡_, refl, sym, ap, _∙_}
-use mathlib.Core.Bool.{cond}
 use mathlib.Core.List.{List}
 use Prim.Native.Nat.{ℕ, _%_}
 use lib.Dec.{eqb}
 use lib.ListN.{length}
 use Rattle.model.specs.declared.Head.{Head}
 use Rattle.model.specs.declared.Branch.{Branch}
-use Rattle.model.specs.declared.Record.{Record}
 use Rattle.model.specs.Store.{Store}
 use Rattle.model.specs.Soundness.{sizesAllowed}
-use Rattle.model.specs.Batch.{Run, batch, ended}
 use Rattle.model.specs.Fresh.{fresh, madeFresh}
 use Rattle.model.proofs.Base.{case}
-use Rattle.rows.specs.Rows.{recordRowsOf}
 use Rattle.rows.proofs.Laws.{record-kind}
 use Rattle.lent.specs.declared.Report.{Report}
 use Rattle.lent.specs.Lent.{lentStore, wholeRecords, lentBatch, lentFresh, BatchLeaves, FreshLeaves, freshStart, freshBatch}

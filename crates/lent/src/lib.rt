@@ -131,7 +131,16 @@ pub fn run_batch(
     }
     let mut table = [0u32; 12288];
     load_rows(branches, &mut table);
-    let done = batch_rows(*head, branches.len(), &mut table, rt, pt, slab, input, answers);
+    let done = batch_rows(
+        *head,
+        branches.len(),
+        &mut table,
+        rt,
+        pt,
+        slab,
+        input,
+        answers,
+    );
     store_rows(branches, &table);
     *head = done.head;
     done.report

@@ -1,12 +1,11 @@
 -- The program's tables made a fresh store, and the batch on it.
-use mathlib.Core.Path.{_≡_, refl, sym, ap, _∙_}
+use mathlib.Core.Path.{_≡_, refl, ap, _∙_}
 use mathlib.Core.List.{List}
 use mathlib.Core.Bool.{true}
 use Prim.Native.Nat.{ℕ, _≤_, _%_, _/_}
 use native.Mathlib.Omega.{arith}
 use lib.Dec.{eqb}
 use lib.ListN.{length, drop, replicate, length-append, length-replicate}
-use Rattle.model.specs.declared.Head.{Head}
 use Rattle.model.specs.declared.Branch.{Branch}
 use Rattle.model.specs.Store.{Store, zero-branch}
 use Rattle.model.specs.Soundness.{sizesAllowed}
@@ -16,7 +15,7 @@ use Rattle.model.specs.Session.{cabinet}
 use Rattle.rows.specs.Rows.{recordRowsOf}
 use Rattle.rows.proofs.Laws.{record-count}
 use Rattle.lent.specs.declared.Ended.{Ended}
-use Rattle.lent.specs.Lent.{lentStore, wholeRecords, lentFresh, freshStart, freshBatch, BatchLeaves}
+use Rattle.lent.specs.Lent.{wholeRecords, lentFresh, freshStart, freshBatch, BatchLeaves}
 use Rattle.lent_main.specs.Session.{zeros, Replies}
 
 length-zeros : (n : ℕ) → length (zeros n) ≡ n

@@ -161,7 +161,7 @@ fn drawn(w: &mut [u32]) -> Request {
         plus(get(w, SIZE), if kind % 8 == 0 { 1 } else { 0 }),
     );
     let value = draw(w, SEED, 256);
-    let moment = drawn_moment(w);
+    let moment = drawn_moment(w, if kind < 20 { 2 } else { 7 });
     if kind == 0 {
         return drawn_bad(w, address, moment);
     }
@@ -181,12 +181,12 @@ fn drawn(w: &mut [u32]) -> Request {
     }
 }
 
-// A moment from one below the floor to two above now; often the floor itself or one next to it.
-fn drawn_moment(w: &mut [u32]) -> u32 {
+// A moment from one below the floor to two above now; so often of eight times the floor or the moment after it.
+fn drawn_moment(w: &mut [u32], often: u32) -> u32 {
     let floor = reference::floor(w);
     let span = minus(reference::now(w), floor);
-    let near = draw(w, SEED, 4);
-    let wide = if near < 2 { 3 } else { plus(span, 4) };
+    let odds = draw(w, SEED, 8);
+    let wide = if odds < often { 2 } else { plus(span, 4) };
     let step = draw(w, SEED, wide);
     let edge = draw(w, SEED, 16);
     if edge == 0 {

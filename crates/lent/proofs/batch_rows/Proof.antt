@@ -1,4 +1,4 @@
-use mathlib.Core.Path.{_≡_, sym}
+use mathlib.Core.Path.{sym}
 use Prim.Native.Nat.{_*_, _≤_}
 use lib.ListN.{length}
 use lib.Seq.{length-take-le}
@@ -44,7 +44,7 @@ returns c =
     let fits : s .count * 3 ≤ length (s .table .now) = c .before .before .before .before .before .before .before .before .before .before .before .before .before .before .before .before .before .before .before .before .before .before .before .pre in (
       rest-stays (s .count) (s .table .now) fits (d .last .1 .0) (same-length c),
       batch-back (s .count) (s .table .now) fits (d .last .1 .0) (same-length c) (s .head) (s .rt .now) (s .pt .now) (s .slab .now) (s .input .now) (s .answers .now) (d .result) (d .last .1 .1 .0) (d .last .1 .1 .1 .0) (d .last .1 .1 .1 .1 .0)
-      (d .last .1 .1 .1 .1 .1 .1 .0) (d .ensures),
+          (d .last .1 .1 .1 .1 .1 .1 .0) (d .ensures),
     )
 
 pub batch-rows-spec : {M : Type 1} → statement M

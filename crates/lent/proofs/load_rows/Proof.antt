@@ -19,8 +19,8 @@ use borrow.Author.Tests.{ltb-true, ltb-false}
 use mir.Syntax.{Ty, named, erased, imm, mut, w32, w64, tyInt, tyBool, tyUnit, tyRef}
 use mir.Table.{spell}
 use mir.Val.{Val, vunit, vbool, vint}
-use base.Logic.{SProp, ent, sep, emp, id⊢, exE, snd∗}
-use base.Fml.{Lft, GName, Share, Fml, ftrue, fsep, fat, froom, fdies, flft}
+use base.Logic.{SProp, ent, sep, id⊢, exE, snd∗}
+use base.Fml.{Lft, GName, Share, Fml, ftrue, fat, froom, fdies, flft}
 use prog.Memory.{Memory}
 use prog.Routine.{Routine}
 use prog.Wp.{Heap, Out, Env, Calls, Loops, Wp, WpFn, Tables, afterSeq, afterBlock, afterTurn, atReturn}

@@ -9,7 +9,7 @@ use Prim.Native.Nat.{ℕ, _<_, _≤_, _^_, _*_, _+_, _-_, zero-le}
 use native.Mathlib.Nat.{le-antisymm}
 use native.Mathlib.Numerals.{add-one-dec}
 use native.Mathlib.Omega.{arith}
-use mathlib.Core.List.{List, [], _∷_, _++_}
+use mathlib.Core.List.{List, [], _∷_}
 use lib.Dec.{ltb, lit<}
 use lib.ListN.{length, getD, set, take}
 use lib.WfN.{Nat·lt-wfRel}
@@ -19,8 +19,8 @@ use borrow.Author.Tests.{ltb-true, ltb-false}
 use mir.Syntax.{Ty, named, erased, imm, mut, w32, w64, tyInt, tyBool, tyUnit, tyRef}
 use mir.Table.{spell}
 use mir.Val.{Val, vunit, vbool, vint}
-use base.Logic.{SProp, ent, sep, emp, id⊢, exE, snd∗}
-use base.Fml.{Lft, GName, Share, Fml, ftrue, fsep, fat, froom, fdies, flft}
+use base.Logic.{SProp, ent, sep, id⊢, exE, snd∗}
+use base.Fml.{Lft, GName, Share, Fml, ftrue, fat, froom, fdies, flft}
 use prog.Memory.{Memory}
 use prog.Routine.{Routine}
 use prog.Wp.{Heap, Out, Env, Calls, Loops, Wp, WpFn, Tables, afterSeq, afterBlock, afterTurn, atReturn}
