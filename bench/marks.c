@@ -1,0 +1,67 @@
+/* What a reclaim keeps. Branches: newest to oldest, one that ends at or above the floor, and the parent of a kept
+   one. Records, an address at a time: those from the floor on, what the floor's own lookup gives, and what is found
+   at the start of each branch that begins above the floor. */
+#include "store.h"
+
+size_t row_holding(const struct branch *rows, size_t n, uint32_t moment)
+{
+    size_t lo = 0, hi = n;
+    while (lo + 1 < hi) {
+        size_t mid = lo + (hi - lo) / 2;
+        if (rows[mid].start <= moment)
+            lo = mid;
+        else
+            hi = mid;
+    }
+    return lo;
+}
+
+void mark_branches(struct marking *m)
+{
+    m->parent[0] = 0;
+    for (size_t i = 0; i < m->n; i++) {
+        m->kept[i] = 0;
+        if (i > 0)
+            m->parent[i] = (uint32_t)row_holding(m->rows, i, m->rows[i].cut);
+    }
+    for (size_t i = m->n; i-- > 0;)
+        if (m->kept[i] || m->rows[i].end >= m->floor)
+            m->kept[i] = m->kept[m->parent[i]] = 1;
+}
+
+/* One more than the last of the group's records with a moment from `from` to `to`, else `other`. */
+static uint32_t latest(const uint32_t *moments, size_t count, uint32_t from, uint32_t to, uint32_t other)
+{
+    size_t lo = 0, hi = count;
+    while (lo < hi) {
+        size_t mid = lo + (hi - lo) / 2;
+        if (moments[mid] <= to)
+            lo = mid + 1;
+        else
+            hi = mid;
+    }
+    return lo > 0 && moments[lo - 1] >= from ? (uint32_t)lo : other;
+}
+
+void mark_group(struct marking *m, const uint32_t *moments, size_t count, uint8_t *kept)
+{
+    for (size_t i = 0; i < count; i++)
+        kept[i] = moments[i] >= m->floor;
+    if (kept[0])
+        return;
+    m->inherited[0] = 0;
+    for (size_t i = 1; i < m->n; i++) {
+        uint32_t p = m->parent[i];
+        m->inherited[i] = latest(moments, count, m->rows[p].start, m->rows[i].cut, m->inherited[p]);
+    }
+    size_t at = row_holding(m->rows, m->n, m->floor);
+    uint32_t found = latest(moments, count, m->rows[at].start, m->floor, m->inherited[at]);
+    if (found)
+        kept[found - 1] = 1;
+    for (size_t i = 0; i < m->n; i++)
+        if (m->rows[i].start > m->floor) {
+            found = latest(moments, count, m->rows[i].start, m->rows[i].start, m->inherited[i]);
+            if (found)
+                kept[found - 1] = 1;
+        }
+}

@@ -1,0 +1,292 @@
+/* (c) The same job in plain C, not verified: the same byte tables, the same checks and refusals, the same algorithms.
+   It works on the bytes in place. */
+#include <string.h>
+#include "store.h"
+
+static void set_record(struct areas *s, size_t i, struct record r)
+{
+    uint8_t *p = s->records + 12 * i;
+    put32(p, r.address);
+    put32(p + 4, r.moment);
+    put32(p + 8, r.place);
+}
+
+static void set_branch(struct areas *s, size_t i, struct branch b)
+{
+    uint8_t *p = s->branches + 12 * i;
+    put32(p, b.start);
+    put32(p + 4, b.end);
+    put32(p + 8, b.cut);
+}
+
+/* Whether one of the first n branches holds the moment. */
+static int held(const struct areas *s, size_t n, uint32_t moment)
+{
+    size_t lo = 0, hi = n;
+    while (lo < hi) {
+        size_t mid = lo + (hi - lo) / 2;
+        if (get32(s->branches + 12 * mid + 4) < moment)
+            lo = mid + 1;
+        else
+            hi = mid;
+    }
+    return lo < n && get32(s->branches + 12 * lo) <= moment;
+}
+
+static unsigned check(const struct areas *s, size_t head_len)
+{
+    size_t b = s->branches_len / 12, r = s->records_len / 12, p = s->places_len / 4;
+    if (head_len != 20 || s->branches_len % 12 || s->records_len % 12 || s->places_len % 4)
+        return 1;
+    if (b < 1 || b > 4096 || r < 1 || r > 65536 || p < 1 || p > 65536 || s->slab_len != PAGE * p)
+        return 1;
+    uint32_t size = head_size(s), nb = head_branches(s), nr = head_records(s), now = head_now(s), floor = head_floor(s);
+    if (size < 1 || size > 65536 || nb < 1 || nb > b || nr > r || floor > now)
+        return 1;
+
+    struct branch before = branch_at(s, 0);
+    if (before.start != 0 || before.cut != 0 || before.end < before.start)
+        return 2;
+    for (size_t i = 1; i < nb; i++) {
+        struct branch x = branch_at(s, i);
+        if (x.end < x.start || x.start <= before.end)
+            return 2;
+        if (x.start != before.end + 1 && x.start > floor)
+            return 2;
+        if (!held(s, i, x.cut))
+            return 2;
+        before = x;
+    }
+    if (before.end != OPEN_END || before.start > now)
+        return 2;
+
+    struct record last = {0, 0, 0};
+    for (size_t i = 0; i < nr; i++) {
+        struct record x = record_at(s, i);
+        if (i > 0 && (x.address < last.address || (x.address == last.address && x.moment <= last.moment)))
+            return 3;
+        if (x.address >= size || x.moment > now || x.place >= p || get32(s->places + 4 * x.place) != i + 1)
+            return 3;
+        if (!held(s, nb, x.moment))
+            return 3;
+        last = x;
+    }
+    size_t used = 0;
+    for (size_t i = 0; i < p; i++)
+        used += get32(s->places + 4 * i) != 0;
+    return used == nr ? 0 : 3;
+}
+
+/* How many records stand up to (address, moment), itself included. */
+static size_t up_to(const struct areas *s, uint32_t address, uint32_t moment)
+{
+    size_t lo = 0, hi = head_records(s);
+    while (lo < hi) {
+        size_t mid = lo + (hi - lo) / 2;
+        uint32_t a = get32(s->records + 12 * mid);
+        if (a < address || (a == address && get32(s->records + 12 * mid + 4) <= moment))
+            lo = mid + 1;
+        else
+            hi = mid;
+    }
+    return lo;
+}
+
+static const uint8_t *lookup(const struct areas *s, uint32_t address, uint32_t moment)
+{
+    size_t j = up_to(s, address, moment);
+    for (size_t i = head_branches(s); i-- > 0;) {
+        struct branch b = branch_at(s, i);
+        if (moment < b.start || b.end < moment)
+            continue;
+        while (j > 0) {
+            struct record r = record_at(s, j - 1);
+            if (r.address != address)
+                return NULL;
+            if (r.moment <= moment) {
+                if (r.moment >= b.start)
+                    return s->slab + PAGE * r.place;
+                break;
+            }
+            j--;
+        }
+        moment = b.cut;
+    }
+    return NULL;
+}
+
+static unsigned write_page(struct areas *s, uint32_t address, const uint8_t *page)
+{
+    if (address >= head_size(s))
+        return 4;
+    uint32_t now = head_now(s);
+    size_t n = head_records(s), at = up_to(s, address, now);
+    if (at > 0) {
+        struct record r = record_at(s, at - 1);
+        if (r.address == address && r.moment == now) {
+            memcpy(s->slab + PAGE * r.place, page, PAGE);
+            return 0;
+        }
+    }
+    if (n >= s->records_len / 12)
+        return 5;
+    size_t place = 0, places = s->places_len / 4;
+    while (place < places && get32(s->places + 4 * place) != 0)
+        place++;
+    if (place == places)
+        return 6;
+    memmove(s->records + 12 * (at + 1), s->records + 12 * at, 12 * (n - at));
+    for (size_t i = at + 1; i <= n; i++)
+        put32(s->places + 4 * get32(s->records + 12 * i + 8), (uint32_t)i + 1);
+    set_record(s, at, (struct record){address, now, (uint32_t)place});
+    put32(s->places + 4 * place, (uint32_t)at + 1);
+    memcpy(s->slab + PAGE * place, page, PAGE);
+    put32(s->head + 8, (uint32_t)n + 1);
+    return 0;
+}
+
+static unsigned revert(struct areas *s, uint32_t moment)
+{
+    uint32_t now = head_now(s);
+    size_t n = head_branches(s);
+    if (moment < head_floor(s))
+        return 8;
+    if (moment >= now)
+        return 9;
+    if (now == OPEN_END)
+        return 10;
+    if (n >= s->branches_len / 12)
+        return 7;
+    put32(s->branches + 12 * (n - 1) + 4, now);
+    set_branch(s, n, (struct branch){now + 1, OPEN_END, moment});
+    put32(s->head + 4, (uint32_t)n + 1);
+    put32(s->head + 12, now + 1);
+    return 0;
+}
+
+static unsigned reclaim(struct areas *s, uint32_t floor, uint32_t *freed)
+{
+    static struct marking m;
+    static uint32_t moments[65536];
+    static uint8_t kept[65536];
+    if (floor < head_floor(s))
+        return 8;
+    if (floor > head_now(s))
+        return 9;
+    size_t n = head_records(s), w = 0;
+    m.n = head_branches(s);
+    m.floor = floor;
+    for (size_t i = 0; i < m.n; i++)
+        m.rows[i] = branch_at(s, i);
+    mark_branches(&m);
+    for (size_t i = 0; i < n; i++)
+        moments[i] = get32(s->records + 12 * i + 4);
+    for (size_t lo = 0, hi; lo < n; lo = hi) {
+        uint32_t address = get32(s->records + 12 * lo);
+        for (hi = lo + 1; hi < n && get32(s->records + 12 * hi) == address; hi++)
+            ;
+        mark_group(&m, moments + lo, hi - lo, kept + lo);
+    }
+    for (size_t i = 0; i < n; i++) {
+        struct record r = record_at(s, i);
+        if (kept[i])
+            set_record(s, w++, r);
+        put32(s->places + 4 * r.place, kept[i] ? (uint32_t)w : 0);
+    }
+    memset(s->records + 12 * w, 0, 12 * (n - w));
+    *freed = (uint32_t)(n - w);
+    put32(s->head + 8, (uint32_t)w);
+    w = 0;
+    for (size_t i = 0; i < m.n; i++)
+        if (m.kept[i])
+            set_branch(s, w++, m.rows[i]);
+    memset(s->branches + 12 * w, 0, 12 * (m.n - w));
+    put32(s->head + 4, (uint32_t)w);
+    put32(s->head + 16, floor);
+    return 0;
+}
+
+/* The stop number of what stands at the front of the input, 0 for a request. */
+static unsigned unreadable(const uint8_t *p, size_t left, struct request *q)
+{
+    if (left < 7)
+        return 11;
+    *q = request_at(p);
+    if (q->operation < WRITE || q->operation > RECLAIM)
+        return 12;
+    uint32_t unused = q->spare;
+    if (q->operation != WRITE && q->operation != READ)
+        unused |= q->address;
+    if (q->operation == WRITE || q->operation == MARK)
+        unused |= q->moment;
+    if (unused)
+        return 13;
+    return q->operation == WRITE && left < 7 + PAGE ? 11 : 0;
+}
+
+uint32_t plain_batch(uint8_t *head, size_t head_len, uint8_t *branches, size_t branches_len, uint8_t *records, size_t records_len,
+    uint8_t *places, size_t places_len, uint8_t *slab, size_t slab_len, const uint8_t *batch, size_t batch_len,
+    uint8_t *answers, size_t answers_len, uint64_t *answered, uint64_t *request_bytes, uint64_t *answer_bytes)
+{
+    struct areas s = {{0}, branches, records, places, slab, branches_len, records_len, places_len, slab_len};
+    *answered = *request_bytes = *answer_bytes = 0;
+    if (head_len != 20)
+        return 1;
+    memcpy(s.head, head, 20);
+    unsigned stop = check(&s, head_len);
+    if (stop)
+        return stop;
+    size_t at = 0, out = 0;
+    while (at < batch_len) {
+        struct request q;
+        const uint8_t *page = NULL;
+        uint32_t now = head_now(&s), number = now;
+        unsigned refusal = 0;
+        stop = unreadable(batch + at, batch_len - at, &q);
+        if (stop)
+            break;
+        if (answers_len - out < 5) {
+            stop = 14;
+            break;
+        }
+        switch (q.operation) {
+        case WRITE:
+            refusal = write_page(&s, q.address, batch + at + 7);
+            break;
+        case MARK:
+            if (now == OPEN_END)
+                refusal = 10;
+            else
+                put32(s.head + 12, now + 1);
+            break;
+        case REVERT:
+            refusal = revert(&s, q.moment);
+            break;
+        case READ:
+            number = q.moment;
+            if (q.address >= head_size(&s))
+                refusal = 4;
+            else if (q.moment < head_floor(&s))
+                refusal = 8;
+            else if (q.moment > now)
+                refusal = 9;
+            else
+                page = lookup(&s, q.address, q.moment);
+            break;
+        case RECLAIM:
+            refusal = reclaim(&s, q.moment, &number);
+            break;
+        }
+        if (page && answers_len - out < 5 + PAGE) {
+            stop = 14;
+            break;
+        }
+        out = (size_t)(put_answer(answers + out, refusal, refusal ? 0 : number, page) - answers);
+        at += q.operation == WRITE ? 7 + PAGE : 7;
+        ++*answered;
+    }
+    memcpy(head, s.head, 20);
+    *request_bytes = at;
+    *answer_bytes = out;
+    return stop;
+}

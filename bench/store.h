@@ -1,0 +1,109 @@
+/* What the parts of the benchmark share: a store as bytes, and the contenders that run batches on it. */
+#ifndef BENCH_STORE_H
+#define BENCH_STORE_H
+
+#include <stddef.h>
+#include <stdint.h>
+
+#define PAGE 256u
+#define OPEN_END 4294967295u
+
+static inline uint32_t get32(const uint8_t *p)
+{
+    return (uint32_t)p[0] << 24 | (uint32_t)p[1] << 16 | (uint32_t)p[2] << 8 | p[3];
+}
+
+static inline void put32(uint8_t *p, uint32_t x)
+{
+    p[0] = (uint8_t)(x >> 24);
+    p[1] = (uint8_t)(x >> 16);
+    p[2] = (uint8_t)(x >> 8);
+    p[3] = (uint8_t)x;
+}
+
+/* A row of the branch or record table as numbers. */
+struct branch { uint32_t start, end, cut; };
+struct record { uint32_t address, moment, place; };
+
+/* Head, tables and slab as the C interface takes them. */
+struct areas {
+    uint8_t head[20];
+    uint8_t *branches, *records, *places, *slab;
+    size_t branches_len, records_len, places_len, slab_len;
+};
+
+static inline uint32_t head_size(const struct areas *s) { return get32(s->head); }
+static inline uint32_t head_branches(const struct areas *s) { return get32(s->head + 4); }
+static inline uint32_t head_records(const struct areas *s) { return get32(s->head + 8); }
+static inline uint32_t head_now(const struct areas *s) { return get32(s->head + 12); }
+static inline uint32_t head_floor(const struct areas *s) { return get32(s->head + 16); }
+
+static inline struct branch branch_at(const struct areas *s, size_t i)
+{
+    const uint8_t *p = s->branches + 12 * i;
+    return (struct branch){get32(p), get32(p + 4), get32(p + 8)};
+}
+
+static inline struct record record_at(const struct areas *s, size_t i)
+{
+    const uint8_t *p = s->records + 12 * i;
+    return (struct record){get32(p), get32(p + 4), get32(p + 8)};
+}
+
+/* A request as its seven bytes spell it. */
+enum { WRITE = 1, MARK = 2, REVERT = 3, READ = 4, RECLAIM = 5 };
+struct request { unsigned operation; uint32_t address, moment, spare; };
+
+static inline struct request request_at(const uint8_t *p)
+{
+    uint64_t n = 0;
+    for (int i = 0; i < 7; i++)
+        n = n << 8 | p[i];
+    return (struct request){(unsigned)(n >> 53 & 7), (uint32_t)(n >> 37 & 65535), (uint32_t)(n >> 5), (uint32_t)(n & 31)};
+}
+
+static inline uint8_t *put_answer(uint8_t *out, unsigned refusal, uint32_t number, const uint8_t *page)
+{
+    out[0] = (uint8_t)(refusal << 2 | (page ? 2u : 0u));
+    put32(out + 1, number);
+    out += 5;
+    if (page) {
+        __builtin_memcpy(out, page, PAGE);
+        out += PAGE;
+    }
+    return out;
+}
+
+/* Something that runs batches. `load` takes over a store; `run` carries out a batch, writes the answers and
+   returns their length; `drop` lets the store go. */
+struct contender {
+    const char *name;
+    void (*load)(const struct areas *);
+    size_t (*run)(const uint8_t *batch, size_t batch_len, uint8_t *answers, size_t answers_len);
+    void (*drop)(void);
+    int slow; /* gets fewer reads where they are timed */
+};
+
+extern const struct contender library, plain, paper, paper_short, sqlite;
+
+/* The plain implementation under the signature of kizmoolet_batch. */
+uint32_t plain_batch(uint8_t *head, size_t head_len, uint8_t *branches, size_t branches_len, uint8_t *records, size_t records_len,
+    uint8_t *places, size_t places_len, uint8_t *slab, size_t slab_len, const uint8_t *batch, size_t batch_len,
+    uint8_t *answers, size_t answers_len, uint64_t *answered, uint64_t *request_bytes, uint64_t *answer_bytes);
+
+/* Which records and branches a reclaim keeps; shared by the three that the library is compared with. */
+struct marking {
+    size_t n;
+    uint32_t floor;
+    struct branch rows[4096];
+    uint32_t parent[4096];
+    uint8_t kept[4096];
+    uint32_t inherited[4096];
+};
+size_t row_holding(const struct branch *rows, size_t n, uint32_t moment);
+void mark_branches(struct marking *m); /* from n, floor and rows: parent and kept */
+void mark_group(struct marking *m, const uint32_t *moments, size_t count, uint8_t *kept); /* the records of one address */
+
+_Noreturn void fail(const char *what);
+
+#endif
