@@ -1,0 +1,320 @@
+/* A host in C: reads the cases that cases/main.rs writes from standard input, lends areas to the
+   static library, calls it and compares each area, byte for byte.
+
+   How an area lies in memory, by the first argument:
+   pages   between two pages that may not be touched, against the one after it or the one before it
+           in turn; the other side has bytes that nobody may change
+   exact   an allocation of just its length, for a run under a tool that watches allocations */
+
+#define _GNU_SOURCE
+#include "kizmoolet.h"
+
+#include <inttypes.h>
+#include <pthread.h>
+#include <stdbool.h>
+#include <stdio.h>
+#include <stdlib.h>
+#include <string.h>
+#include <sys/mman.h>
+#include <unistd.h>
+
+enum { HEAD, BRANCHES, RECORDS, PLACES, SLAB, BATCH, ANSWERS, AREAS };
+
+static const char *const area_names[AREAS] = {
+    "head", "branches", "records", "places", "slab", "batch", "answers"
+};
+
+enum { MARGIN = 512 };
+
+/* More than the longest area of any case. */
+static const size_t most_bytes = (size_t)40 << 20;
+
+struct area {
+    uint8_t *between; /* the memory between the two pages that may not be touched */
+    uint8_t *bytes;
+    size_t length;
+    bool against_end;
+};
+
+struct counts {
+    uint64_t calls, compared, differ, answered;
+    uint64_t stops[16], refusals[16];
+};
+
+static struct area areas[AREAS];
+static struct counts counts;
+static uint64_t seen[16];
+static uint64_t all_differ;
+static bool call_told;
+static unsigned printed;
+static bool exact;
+static bool all_families;
+static uint8_t *expected;
+
+static void fail(const char *what)
+{
+    fprintf(stderr, "c_host: %s\n", what);
+    exit(2);
+}
+
+static void differs(const char *what, const char *of)
+{
+    if (!call_told) {
+        counts.differ++;
+        all_differ++;
+        call_told = true;
+    }
+    if (++printed <= 20)
+        printf("differs at call %" PRIu64 " of the family: %s %s\n", counts.calls, what, of);
+}
+
+static void get(void *to, size_t length)
+{
+    if (length != 0 && fread(to, 1, length, stdin) != length)
+        fail("the cases end early");
+}
+
+static uint64_t get_number(void)
+{
+    uint8_t bytes[8];
+    uint64_t number = 0;
+    get(bytes, 8);
+    for (int i = 7; i >= 0; i--)
+        number = number << 8 | bytes[i];
+    return number;
+}
+
+static uint8_t margin_byte(size_t index)
+{
+    return (uint8_t)(index * 37 ^ 0xC3);
+}
+
+/* The bytes on the open side of an area, a margin's worth. */
+static uint8_t *margin(const struct area *area)
+{
+    return area->against_end ? area->bytes - MARGIN : area->bytes + area->length;
+}
+
+/* Makes an area of this length; its bytes are to be filled in. */
+static void make_area(struct area *area, size_t length)
+{
+    if (length + MARGIN > most_bytes)
+        fail("an area is too long");
+    area->length = length;
+    if (exact) {
+        /* An area of no bytes is lent as a null pointer. */
+        free(area->bytes);
+        area->bytes = length == 0 ? NULL : malloc(length);
+        if (length != 0 && area->bytes == NULL)
+            fail("no memory");
+        return;
+    }
+    area->against_end = !area->against_end;
+    area->bytes = area->against_end ? area->between + most_bytes - length : area->between;
+    for (size_t i = 0; i < MARGIN; i++)
+        margin(area)[i] = margin_byte(i);
+}
+
+static void get_area(struct area *area)
+{
+    make_area(area, get_number());
+    get(area->bytes, area->length);
+}
+
+static void check_margins(void)
+{
+    if (exact)
+        return;
+    for (int i = 0; i < AREAS; i++) {
+        if (areas[i].bytes == NULL)
+            continue;
+        for (size_t j = 0; j < MARGIN; j++)
+            if (margin(&areas[i])[j] != margin_byte(j)) {
+                differs("bytes beside the area", area_names[i]);
+                break;
+            }
+    }
+}
+
+/* Reads what an area must hold and compares; where it differs it is set right. */
+static void compare_area(struct area *area, const char *name)
+{
+    uint64_t length = get_number();
+    if (length != area->length)
+        fail("the cases have another length");
+    get(expected, length);
+    if (length != 0 && memcmp(expected, area->bytes, length) != 0) {
+        differs("the area", name);
+        memcpy(area->bytes, expected, length);
+    }
+}
+
+static void run_fresh(void)
+{
+    uint32_t size = (uint32_t)get_number();
+    uint32_t result = (uint32_t)get_number();
+    counts.calls++;
+    call_told = false;
+    uint32_t got = kizmoolet_fresh(size,
+        areas[HEAD].bytes, areas[HEAD].length,
+        areas[BRANCHES].bytes, areas[BRANCHES].length,
+        areas[RECORDS].bytes, areas[RECORDS].length,
+        areas[PLACES].bytes, areas[PLACES].length,
+        areas[SLAB].bytes, areas[SLAB].length);
+    counts.stops[got & 15]++;
+    if (got != result)
+        differs("the result of", "a fresh store");
+    check_margins();
+}
+
+static void count_refusals(uint64_t answer_bytes)
+{
+    const uint8_t *answers = areas[ANSWERS].bytes;
+    uint64_t at = 0;
+    while (at + 5 <= answer_bytes) {
+        counts.refusals[answers[at] >> 2 & 15]++;
+        at += (answers[at] & 2) != 0 ? 261 : 5;
+    }
+}
+
+static void run_batch(void)
+{
+    get_area(&areas[BATCH]);
+    get_area(&areas[ANSWERS]);
+    uint64_t stop = get_number();
+    uint64_t counted[3];
+    for (int i = 0; i < 3; i++)
+        counted[i] = get_number();
+    uint64_t got[3] = { 77, 77, 77 };
+    /* The library only reads the batch. */
+    if (areas[BATCH].length != 0)
+        memcpy(expected, areas[BATCH].bytes, areas[BATCH].length);
+    counts.calls++;
+    call_told = false;
+    uint32_t got_stop = kizmoolet_batch(
+        areas[HEAD].bytes, areas[HEAD].length,
+        areas[BRANCHES].bytes, areas[BRANCHES].length,
+        areas[RECORDS].bytes, areas[RECORDS].length,
+        areas[PLACES].bytes, areas[PLACES].length,
+        areas[SLAB].bytes, areas[SLAB].length,
+        areas[BATCH].bytes, areas[BATCH].length,
+        areas[ANSWERS].bytes, areas[ANSWERS].length,
+        &got[0], &got[1], &got[2]);
+    counts.stops[got_stop & 15]++;
+    if (got_stop != stop || memcmp(got, counted, sizeof got) != 0) {
+        differs("what is reported of", "the batch");
+        if (printed <= 20)
+            printf("  stop %" PRIu32 ", should %" PRIu64 "; counts %" PRIu64 " %" PRIu64 " %" PRIu64
+                   ", should %" PRIu64 " %" PRIu64 " %" PRIu64 "\n",
+                got_stop, stop, got[0], got[1], got[2], counted[0], counted[1], counted[2]);
+    } else {
+        counts.answered += got[0];
+        count_refusals(got[2]);
+    }
+    if (areas[BATCH].length != 0 && memcmp(expected, areas[BATCH].bytes, areas[BATCH].length) != 0)
+        differs("the area", "batch");
+    compare_area(&areas[ANSWERS], area_names[ANSWERS]);
+    check_margins();
+}
+
+static void print_numbers(const uint64_t *numbers, int from)
+{
+    const char *before = "";
+    bool some = false;
+    for (int i = from; i < 16; i++)
+        if (numbers[i] != 0) {
+            printf("%s%d: %" PRIu64, before, i, numbers[i]);
+            before = ", ";
+            some = true;
+        }
+    if (!some)
+        printf("none");
+}
+
+static void end_family(void)
+{
+    char name[64] = { 0 };
+    uint64_t length = get_number();
+    if (length >= sizeof name)
+        fail("the family's name is too long");
+    get(name, length);
+    printf("  %s: %" PRIu64 " calls, %" PRIu64 " requests answered, %" PRIu64
+           " times all areas compared, %" PRIu64 " calls differ\n    results and stops ",
+        name, counts.calls, counts.answered, counts.compared, counts.differ);
+    print_numbers(counts.stops, 0);
+    printf("; refusals ");
+    print_numbers(counts.refusals, 1);
+    printf("\n");
+    for (int i = 0; i < 16; i++)
+        seen[i] += counts.stops[i] + counts.refusals[i];
+    memset(&counts, 0, sizeof counts);
+}
+
+static void *work(void *result)
+{
+    bool *good = result;
+    for (;;) {
+        uint8_t tag;
+        get(&tag, 1);
+        if (tag == 'L') {
+            for (int i = HEAD; i <= SLAB; i++)
+                get_area(&areas[i]);
+        } else if (tag == 'F') {
+            run_fresh();
+        } else if (tag == 'B') {
+            run_batch();
+        } else if (tag == 'C') {
+            counts.compared++;
+            for (int i = HEAD; i <= SLAB; i++)
+                compare_area(&areas[i], area_names[i]);
+        } else if (tag == 'E') {
+            end_family();
+        } else if (tag == 'Z') {
+            all_differ += get_number();
+            break;
+        } else {
+            fail("no such record");
+        }
+    }
+    *good = all_differ == 0;
+    for (int i = 1; i < 15; i++)
+        if (all_families && seen[i] == 0) {
+            printf("  never seen: %d\n", i);
+            *good = false;
+        }
+    printf("  in all %" PRIu64 " calls differ\n", all_differ);
+    return NULL;
+}
+
+int main(int argc, char **argv)
+{
+    exact = argc > 1 && strcmp(argv[1], "exact") == 0;
+    all_families = argc > 2 && strcmp(argv[2], "all") == 0;
+    size_t page = (size_t)sysconf(_SC_PAGESIZE);
+    if (most_bytes % page != 0)
+        fail("a page is larger than thought");
+    expected = malloc(most_bytes);
+    if (expected == NULL)
+        fail("no memory");
+    for (int i = 0; i < AREAS && !exact; i++) {
+        uint8_t *whole = mmap(NULL, most_bytes + 2 * page, PROT_NONE,
+            MAP_PRIVATE | MAP_ANONYMOUS | MAP_NORESERVE, -1, 0);
+        if (whole == MAP_FAILED || mprotect(whole + page, most_bytes, PROT_READ | PROT_WRITE) != 0)
+            fail("no memory");
+        areas[i].between = whole + page;
+    }
+    /* The library takes somewhat more than a megabyte of the stack. */
+    pthread_attr_t attributes;
+    pthread_t thread;
+    bool good = false;
+    if (pthread_attr_init(&attributes) != 0
+        || pthread_attr_setstacksize(&attributes, (size_t)4 << 20) != 0
+        || pthread_create(&thread, &attributes, work, &good) != 0
+        || pthread_join(thread, NULL) != 0)
+        fail("no thread");
+    pthread_attr_destroy(&attributes);
+    for (int i = 0; i < AREAS && exact; i++)
+        free(areas[i].bytes);
+    free(expected);
+    return good ? 0 : 1;
+}

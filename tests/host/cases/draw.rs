@@ -1,0 +1,192 @@
+//! Numbers drawn from a seed, and requests made of them.
+
+use reference::{OPEN_END, PAGE};
+
+pub struct Draw(u64);
+
+impl Draw {
+    pub fn new(seed: u64) -> Draw {
+        Draw(seed)
+    }
+
+    pub fn next(&mut self) -> u64 {
+        self.0 = self.0.wrapping_add(0x9E37_79B9_7F4A_7C15);
+        let mut mixed = self.0;
+        mixed = (mixed ^ (mixed >> 30)).wrapping_mul(0xBF58_476D_1CE4_E5B9);
+        mixed = (mixed ^ (mixed >> 27)).wrapping_mul(0x94D0_49BB_1331_11EB);
+        mixed ^ (mixed >> 31)
+    }
+
+    /// A number below the limit.
+    pub fn below(&mut self, limit: u64) -> u64 {
+        self.next() % limit
+    }
+
+    /// A number from low to high, both included.
+    pub fn within(&mut self, low: u64, high: u64) -> u64 {
+        low + self.next() % (high - low + 1)
+    }
+
+    pub fn percent(&mut self, chance: u64) -> bool {
+        self.below(100) < chance
+    }
+
+    pub fn bytes(&mut self, length: usize) -> Vec<u8> {
+        let mut bytes = Vec::with_capacity(length + 8);
+        while bytes.len() < length {
+            bytes.extend_from_slice(&self.next().to_le_bytes());
+        }
+        bytes.truncate(length);
+        bytes
+    }
+
+    pub fn one_of(&mut self, list: &[u64]) -> u64 {
+        list[self.below(list.len() as u64) as usize]
+    }
+
+    /// A number with one bit set, of so many bits.
+    pub fn one_bit(&mut self, bits: u64) -> u64 {
+        1 << self.below(bits)
+    }
+}
+
+pub fn packed(operation: u64, address: u64, moment: u64, spare: u64) -> Vec<u8> {
+    let bits = operation << 53 | (address & 0xFFFF) << 37 | (moment & 0xFFFF_FFFF) << 5 | spare & 31;
+    bits.to_be_bytes()[1..].to_vec()
+}
+
+pub fn write(address: u64, page: &[u8]) -> Vec<u8> {
+    let mut bytes = packed(1, address, 0, 0);
+    bytes.extend_from_slice(page);
+    bytes
+}
+
+pub fn mark() -> Vec<u8> {
+    packed(2, 0, 0, 0)
+}
+
+pub fn revert(moment: u64) -> Vec<u8> {
+    packed(3, 0, moment, 0)
+}
+
+pub fn read(address: u64, moment: u64) -> Vec<u8> {
+    packed(4, address, moment, 0)
+}
+
+pub fn reclaim(moment: u64) -> Vec<u8> {
+    packed(5, 0, moment, 0)
+}
+
+/// How often each request is drawn.
+pub struct Mix {
+    pub write: u64,
+    pub mark: u64,
+    pub revert: u64,
+    pub read: u64,
+    pub reclaim: u64,
+}
+
+pub const MIXES: [Mix; 4] = [
+    Mix { write: 30, mark: 20, revert: 20, read: 15, reclaim: 15 },
+    Mix { write: 25, mark: 10, revert: 45, read: 10, reclaim: 10 },
+    Mix { write: 35, mark: 10, revert: 20, read: 5, reclaim: 30 },
+    Mix { write: 40, mark: 5, revert: 15, read: 30, reclaim: 10 },
+];
+
+/// What the requests of a list are drawn from; now and floor are guessed ahead over the batch.
+pub struct Outlook {
+    pub size: u64,
+    /// Most addresses are drawn below this.
+    pub few: u64,
+    pub now: u64,
+    pub floor: u64,
+}
+
+pub fn drawn_address(draw: &mut Draw, outlook: &Outlook) -> u64 {
+    let size = outlook.size;
+    match draw.below(20) {
+        0 => draw.one_of(&[size - 1, size, size + 1, 65_535]).min(65_535),
+        1 => draw.below(size),
+        _ => draw.below(size.min(outlook.few)),
+    }
+}
+
+pub fn drawn_moment(draw: &mut Draw, outlook: &Outlook) -> u64 {
+    let (now, floor) = (outlook.now, outlook.floor);
+    match draw.below(24) {
+        0 => floor.saturating_sub(1),
+        1 => now + 1,
+        2 => now,
+        3 => draw.below(1 << 32),
+        4 => draw.one_of(&[0, 1, 4_294_967_294, 4_294_967_295]),
+        5..=8 => floor,
+        9..=13 => now.saturating_sub(draw.within(1, 3)),
+        _ => draw.within(floor, now),
+    }
+}
+
+pub fn drawn_request(draw: &mut Draw, mix: &Mix, outlook: &mut Outlook) -> Vec<u8> {
+    let all = mix.write + mix.mark + mix.revert + mix.read + mix.reclaim;
+    let mut chosen = draw.below(all);
+    if chosen < mix.write {
+        let page = draw.bytes(PAGE);
+        return write(drawn_address(draw, outlook), &page);
+    }
+    chosen -= mix.write;
+    if chosen < mix.mark {
+        outlook.now = (outlook.now + 1).min(u64::from(OPEN_END));
+        return mark();
+    }
+    chosen -= mix.mark;
+    if chosen < mix.revert {
+        let moment = drawn_moment(draw, outlook);
+        if outlook.floor <= moment && moment < outlook.now {
+            outlook.now = (outlook.now + 1).min(u64::from(OPEN_END));
+        }
+        return revert(moment);
+    }
+    chosen -= mix.revert;
+    if chosen < mix.read {
+        let address = drawn_address(draw, outlook);
+        return read(address, drawn_moment(draw, outlook));
+    }
+    // Most reclaims lift the floor by little, so that there is something to revert to.
+    let moment = match draw.below(8) {
+        0 => drawn_moment(draw, outlook),
+        1 => draw.within(outlook.floor, outlook.now),
+        2..=4 => outlook.floor,
+        _ => (outlook.floor + draw.below(3)).min(outlook.now),
+    };
+    if outlook.floor <= moment && moment <= outlook.now {
+        outlook.floor = moment;
+    }
+    reclaim(moment)
+}
+
+/// Seven bytes that are no request, or one with a field set that it does not use.
+pub fn drawn_fault(draw: &mut Draw) -> Vec<u8> {
+    match draw.below(5) {
+        0 => packed(draw.one_of(&[0, 6, 7]), 0, 0, 0),
+        1 => packed(draw.within(1, 5), 0, 0, draw.one_bit(5)),
+        2 => packed(draw.one_of(&[2, 3, 5]), draw.one_bit(16), 0, 0),
+        3 => packed(draw.one_of(&[1, 2]), 0, draw.one_bit(32), 0),
+        _ => draw.bytes(7),
+    }
+}
+
+/// Bytes of requests that follow on what the batches left over.
+pub fn drawn_batch(draw: &mut Draw, mix: &Mix, outlook: &mut Outlook, most: u64, faults: u64) -> Vec<u8> {
+    let mut bytes = Vec::new();
+    if draw.percent(faults) && draw.percent(20) {
+        let length = draw.below(600) as usize;
+        return draw.bytes(length);
+    }
+    for _ in 0..draw.within(0, most) {
+        if draw.percent(faults) && draw.percent(10) {
+            bytes.extend(drawn_fault(draw));
+        } else {
+            bytes.extend(drawn_request(draw, mix, outlook));
+        }
+    }
+    bytes
+}

@@ -1,0 +1,563 @@
+//! The cases that a host runs on the library, each with what the reference says of it. The same cases
+//! serve a host in this process and, written out as bytes, a host in C.
+
+use reference::pictures::Pile;
+use reference::*;
+
+mod draw;
+mod tables;
+
+use draw::*;
+use tables::*;
+
+/// A host that lends areas to the library, calls it and compares.
+pub trait Host {
+    /// From here on the lent areas have these lengths and bytes.
+    fn lend(&mut self, areas: &Areas);
+    /// Calls for a fresh store; the result that the reference gives.
+    fn fresh(&mut self, size: u32, result: u32);
+    /// Calls for a batch, with an answer area of these bytes; report and answer area that the reference gives.
+    fn batch(&mut self, batch: &[u8], before: &[u8], report: &Report, after: &[u8]);
+    /// The lent areas that the reference has after the last call; a host that differs takes these over.
+    fn compare(&mut self, areas: &Areas);
+    /// The family of cases is complete.
+    fn end(&mut self, name: &str);
+    /// A difference between the reference and the pile of pictures.
+    fn pile_differs(&mut self, what: &str);
+}
+
+// ---------------------------------------------------------------------------------------------
+// One call on both sides
+
+/// The areas as the reference leaves them, and what is fed with them.
+struct Run<'a> {
+    host: &'a mut dyn Host,
+    areas: Areas,
+    /// Compare the lent areas after every call.
+    always: bool,
+}
+
+impl Run<'_> {
+    fn lend(&mut self, areas: Areas) {
+        self.host.lend(&areas);
+        self.areas = areas;
+    }
+
+    fn fresh(&mut self, size: u32) -> u32 {
+        let result = reference::fresh(size, &mut self.areas);
+        self.host.fresh(size, result);
+        if self.always {
+            self.host.compare(&self.areas);
+        }
+        result
+    }
+
+    fn batch(&mut self, bytes: &[u8], before: &[u8], watch: impl FnMut(&Request, &Answer)) -> (Report, Vec<u8>) {
+        let mut after = before.to_vec();
+        let report = batch_watched(&mut self.areas, bytes, &mut after, watch);
+        self.host.batch(bytes, before, &report, &after);
+        if self.always {
+            self.host.compare(&self.areas);
+        }
+        (report, after)
+    }
+
+    fn head(&self, index: usize) -> u32 {
+        number_at(&self.areas.head, index)
+    }
+
+    fn outlook(&self) -> Outlook {
+        Outlook {
+            size: u64::from(self.head(0)),
+            few: if self.areas.records.len() > 1_000 { 60 } else { 5 },
+            now: u64::from(self.head(3)),
+            floor: u64::from(self.head(4)),
+        }
+    }
+}
+
+/// No fewer bytes than the answers of these requests take.
+fn most_answer_bytes(bytes: &[u8]) -> usize {
+    let mut at = 0;
+    let mut most = 16;
+    while at < bytes.len() {
+        let writes = bytes[at] >> 5 == 1;
+        let reads = bytes[at] >> 5 == 4;
+        at += if writes { 7 + PAGE } else { 7 };
+        most += if reads { 5 + PAGE } else { 5 };
+    }
+    most
+}
+
+/// An answer area: mostly ample, else of any size or near what the batch needs.
+fn drawn_answer_area(draw: &mut Draw, areas: &Areas, bytes: &[u8]) -> Vec<u8> {
+    let ample = most_answer_bytes(bytes);
+    let length = match draw.below(10) {
+        0 => draw.below(ample as u64 + 1) as usize,
+        1 => draw.below(30) as usize,
+        2 => {
+            let needed = reference::batch(&mut areas.clone(), bytes, &mut vec![0; ample]).answer_bytes;
+            (needed + draw.below(3)).saturating_sub(1) as usize
+        }
+        _ => ample,
+    };
+    draw.bytes(length)
+}
+
+// ---------------------------------------------------------------------------------------------
+// Lists of batches
+
+/// Runs batches of any cut; what a batch left unread begins the next one, or is dropped.
+fn run_batches(run: &mut Run, draw: &mut Draw, batches: u64, most: u64, pile: &mut Option<Pile>) {
+    let mix = &MIXES[draw.below(MIXES.len() as u64) as usize];
+    let mut waiting: Vec<u8> = Vec::new();
+    for _ in 0..batches {
+        let mut outlook = run.outlook();
+        let more = drawn_batch(draw, mix, &mut outlook, most, 10);
+        waiting.extend(more);
+        let cut = if draw.percent(30) { draw.below(waiting.len() as u64 + 1) as usize } else { waiting.len() };
+        let area = drawn_answer_area(draw, &run.areas, &waiting[..cut]);
+        let mut wrong_number = None;
+        let (report, _) = run.batch(&waiting[..cut], &area, |request, answer| {
+            if let Some(pile) = pile {
+                let number = pile.take(request, answer.refusal != 0);
+                if number.is_some() && number != Some(answer.number) {
+                    wrong_number = Some(format!("number {} of {:?}", answer.number, request));
+                }
+            }
+        });
+        if let Some(what) = wrong_number {
+            run.host.pile_differs(&what);
+        }
+        if draw.percent(60) {
+            let unread = if report.stop == 12 || report.stop == 13 { draw.one_of(&[1, 7]) as usize } else { 0 };
+            let dropped = (report.request_bytes as usize + unread).min(waiting.len());
+            waiting.drain(..dropped);
+            if waiting.len() > 4_000 {
+                waiting.clear();
+            }
+        } else {
+            waiting.clear();
+        }
+    }
+}
+
+/// A read of every address below the size and below 6, at every readable moment, a few hundred at most.
+fn read_all(run: &mut Run, draw: &mut Draw, pile: &Option<Pile>) {
+    let outlook = run.outlook();
+    let mut bytes = Vec::new();
+    for moment in outlook.floor..=outlook.now.min(outlook.floor + 60) {
+        for address in 0..outlook.size.min(6) {
+            bytes.extend(read(address, moment));
+        }
+    }
+    let area = draw.bytes(261 * bytes.len() / 7);
+    let mut wrong = None;
+    run.batch(&bytes, &area, |request, answer| {
+        if let (Some(pile), Request::Read { address, moment }) = (pile, request) {
+            let right = answer.refusal == 0 && answer.number == *moment;
+            if !right || answer.page.as_deref() != pile.page(*address, *moment) {
+                wrong = Some(format!("read of {address} at {moment}"));
+            }
+        }
+    });
+    if let Some(what) = wrong {
+        run.host.pile_differs(&what);
+    }
+}
+
+/// Moves now forward by hand, so that the last moments come up; the tables stay sound.
+fn jump(run: &mut Run, draw: &mut Draw) {
+    let now = u64::from(run.head(3));
+    let last = u64::from(OPEN_END);
+    let to = match draw.below(3) {
+        0 => last - draw.below(12),
+        1 => draw.within(now, last),
+        _ => now + draw.below(100),
+    };
+    let mut areas = run.areas.clone();
+    set_number_at(&mut areas.head, 3, to.max(now).min(last) as u32);
+    run.lend(areas);
+}
+
+/// The document's session, one request a batch, its small examples of refusals, and its whole case.
+pub fn examples(host: &mut dyn Host, seed: u64) {
+    let draw = &mut Draw::new(seed);
+    let page = |letter: u8| [letter; PAGE];
+    let usual = (64, 16, 128, 128);
+    let session = vec![
+        read(5, 0),
+        write(5, &page(b'A')),
+        mark(),
+        write(5, &page(b'B')),
+        mark(),
+        write(5, &page(b'C')),
+        revert(0),
+        read(5, 3),
+        write(5, &page(b'D')),
+        revert(2),
+        read(5, 4),
+        read(5, 3),
+        read(5, 2),
+        read(5, 1),
+        reclaim(3),
+        read(5, 2),
+        reclaim(4),
+        read(5, 4),
+    ];
+    let lists = [
+        (usual, session),
+        (usual, vec![write(5, &page(b'A')), write(5, &page(b'B'))]),
+        (usual, vec![mark(), revert(1), revert(0)]),
+        (usual, vec![[mark(), revert(0), read(5, 2)].concat()]),
+        ((6, 1, 1, 1), vec![read(6, 0)]),
+        ((6, 1, 1, 2), vec![write(0, &page(1)), write(1, &page(1)), write(0, &page(2))]),
+        ((6, 1, 2, 1), vec![write(0, &page(1)), write(1, &page(1)), write(0, &page(2))]),
+        ((6, 1, 1, 1), vec![mark(), revert(0)]),
+        ((6, 1, 1, 1), vec![[mark(), mark(), mark(), reclaim(3)].concat(), read(0, 2)]),
+        ((6, 2, 1, 1), vec![[mark(), mark(), mark(), mark()].concat(), revert(4)]),
+        ((6, 1, 1, 1), vec![vec![0x40, 0, 0], vec![0; 7], vec![0x40, 0, 0, 0, 0, 0, 1]]),
+    ];
+    for ((size, branches, records, places), batches) in lists {
+        let sizes = Sizes { size, branches, records, places };
+        let mut run = Run { host: &mut *host, areas: Areas::default(), always: true };
+        run.lend(drawn_areas(draw, &sizes));
+        run.fresh(size);
+        for bytes in batches {
+            let area = draw.bytes(300);
+            run.batch(&bytes, &area, |_, _| {});
+        }
+        run.batch(&mark(), &[1, 2, 3, 4], |_, _| {});
+    }
+    host.end("the document's examples");
+}
+
+/// Lists over small tables from a fresh store, so that every refusal comes up.
+pub fn lists(host: &mut dyn Host, seed: u64, count: u64) {
+    for list in 0..count {
+        let draw = &mut Draw::new(seed ^ (list + 1).wrapping_mul(0xA24B_AED4_963E_E407));
+        let sizes = drawn_sizes(draw);
+        let mut run = Run { host: &mut *host, areas: Areas::default(), always: true };
+        run.lend(drawn_areas(draw, &sizes));
+        run.fresh(sizes.size);
+        // The pile is compared where it is small and nobody else writes to the head.
+        let mut pile = if sizes.size <= 16 { Some(Pile::new(sizes.size)) } else { None };
+        let batches = draw.within(2, 24);
+        run_batches(&mut run, draw, batches, 16, &mut pile);
+        read_all(&mut run, draw, &pile);
+        if let Some(what) = pile.as_ref().and_then(|pile| pile.difference(&run.areas)) {
+            run.host.pile_differs(&what);
+        }
+        if draw.percent(15) {
+            jump(&mut run, draw);
+            run_batches(&mut run, draw, 4, 16, &mut None);
+        }
+    }
+    host.end("lists of batches");
+}
+
+/// Longer lists over tables of some hundred rows.
+pub fn longer_lists(host: &mut dyn Host, seed: u64, count: u64) {
+    for list in 0..count {
+        let draw = &mut Draw::new(seed ^ (list + 1).wrapping_mul(0xD6E8_FEB8_6659_FD93));
+        let records = draw.within(100, 1_500) as usize;
+        let sizes = Sizes {
+            size: draw.one_of(&[16, 40, 5_000, 65_536]) as u32,
+            branches: draw.within(40, 300) as usize,
+            records,
+            places: (records as u64 + draw.within(0, 100) - 50).max(1) as usize,
+        };
+        let mut run = Run { host: &mut *host, areas: Areas::default(), always: true };
+        run.lend(drawn_areas(draw, &sizes));
+        run.fresh(sizes.size);
+        for _ in 0..draw.within(4, 10) {
+            run_batches(&mut run, draw, 4, 100, &mut None);
+        }
+    }
+    host.end("longer lists");
+}
+
+// ---------------------------------------------------------------------------------------------
+// Sound tables of any shape
+
+/// Batches over sound tables that no list from a fresh store need reach.
+pub fn sound_tables(host: &mut dyn Host, seed: u64, count: u64) {
+    for table in 0..count {
+        let draw = &mut Draw::new(seed ^ (table + 1).wrapping_mul(0xC2B2_AE3D_27D4_EB4F));
+        let sizes = drawn_sizes(draw);
+        let areas = drawn_sound(draw, &sizes);
+        assert_eq!(check(&areas), 0, "the tables drawn are sound");
+        let mut run = Run { host: &mut *host, areas: Areas::default(), always: true };
+        run.lend(areas);
+        let batches = draw.within(1, 4);
+        run_batches(&mut run, draw, batches, 12, &mut None);
+    }
+    host.end("sound tables of any shape");
+}
+
+// ---------------------------------------------------------------------------------------------
+// Damaged tables
+
+/// Tables with anything changed by hand; what still passes the check runs on as any other store.
+pub fn damaged_tables(host: &mut dyn Host, seed: u64, count: u64) {
+    for table in 0..count {
+        let draw = &mut Draw::new(seed ^ (table + 1).wrapping_mul(0x1656_67B1_9E37_79F9));
+        let sizes = drawn_sizes(draw);
+        let mut areas = drawn_sound(draw, &sizes);
+        damage(draw, &mut areas);
+        let mut run = Run { host: &mut *host, areas: Areas::default(), always: true };
+        run.lend(areas);
+        if draw.percent(10) {
+            let size = draw.one_of(&[0, 1, 64, 65_535, 65_536, 65_537, 4_294_967_295]) as u32;
+            run.fresh(size);
+        }
+        // A head that is no head is no outlook either.
+        let mut outlook = Outlook { size: u64::from(sizes.size), few: 5, now: 6, floor: 2 };
+        let mix = &MIXES[draw.below(4) as usize];
+        let bytes = drawn_batch(draw, mix, &mut outlook, 8, 5);
+        let area = drawn_answer_area(draw, &run.areas, &bytes);
+        let (report, _) = run.batch(&bytes, &area, |_, _| {});
+        if report.stop != 1 && report.stop != 2 && report.stop != 3 {
+            run_batches(&mut run, draw, 2, 12, &mut None);
+        }
+    }
+    host.end("damaged tables");
+}
+
+/// Tables at and just above the largest sizes.
+pub fn edge_sizes(host: &mut dyn Host, seed: u64) {
+    let draw = &mut Draw::new(seed);
+    for (branches, records, places) in [
+        (4_096, 1, 1),
+        (4_097, 1, 1),
+        (1, 65_536, 1),
+        (1, 65_537, 1),
+        (1, 1, 65_536),
+        (1, 1, 65_537),
+        (4_096, 65_536, 65_536),
+        (4_097, 65_537, 65_537),
+        (0, 1, 1),
+        (1, 0, 1),
+        (1, 1, 0),
+        (0, 0, 0),
+    ] {
+        for size in [0, 1, 65_536, 65_537] {
+            let sizes = Sizes { size, branches, records, places };
+            let mut run = Run { host: &mut *host, areas: Areas::default(), always: true };
+            run.lend(drawn_areas(draw, &sizes));
+            let result = run.fresh(size);
+            if result != 0 {
+                // A head and first rows that would do, were it not for the lengths.
+                let mut areas = run.areas.clone();
+                for (index, number) in [size, 1, 0, 3, 1].iter().enumerate() {
+                    set_number_at(&mut areas.head, index, *number);
+                }
+                if branches > 0 {
+                    set_number_at(&mut areas.branches, 0, 0);
+                    set_number_at(&mut areas.branches, 1, OPEN_END);
+                    set_number_at(&mut areas.branches, 2, 0);
+                }
+                areas.places.fill(0);
+                run.lend(areas);
+            }
+            let bytes = [mark(), write(0, &[7; PAGE]), read(0, 1), revert(0), mark(), reclaim(1)].concat();
+            let area = draw.bytes(600);
+            run.batch(&bytes, &area, |_, _| {});
+        }
+    }
+    host.end("largest sizes");
+}
+
+/// Every area empty in turn, and a batch with more requests and bytes than 16 bits count.
+pub fn empty_areas(host: &mut dyn Host, seed: u64) {
+    let draw = &mut Draw::new(seed);
+    for which in 0..7 {
+        let sizes = Sizes { size: 5, branches: 3, records: 3, places: 3 };
+        let mut run = Run { host: &mut *host, areas: Areas::default(), always: true };
+        run.lend(drawn_areas(draw, &sizes));
+        run.fresh(5);
+        let mut areas = run.areas.clone();
+        if which < 5 {
+            area_of(&mut areas, which).clear();
+        }
+        run.lend(areas);
+        let bytes = if which == 5 { Vec::new() } else { mark() };
+        let area = if which == 6 { Vec::new() } else { draw.bytes(9) };
+        run.batch(&bytes, &area, |_, _| {});
+        run.fresh(5);
+    }
+    for room in [350_000, 349_999, 400_000] {
+        let sizes = Sizes { size: 5, branches: 3, records: 3, places: 3 };
+        let mut run = Run { host: &mut *host, areas: Areas::default(), always: true };
+        run.lend(drawn_areas(draw, &sizes));
+        run.fresh(5);
+        let area = draw.bytes(room);
+        run.batch(&mark().repeat(70_000), &area, |_, _| {});
+        run.batch(&[write(0, &[1; PAGE]), revert(65_536), reclaim(65_537)].concat(), &area, |_, _| {});
+    }
+    host.end("empty areas and many requests");
+}
+
+/// Full tables: thousands of branches and tens of thousands of records, drawn, then a few batches.
+pub fn full_tables(host: &mut dyn Host, seed: u64, count: u64) {
+    for table in 0..count {
+        let draw = &mut Draw::new(seed ^ (table + 1).wrapping_mul(0x27D4_EB2F_1656_67C5));
+        let sizes = Sizes { size: 65_536, branches: 4_096, records: 65_536, places: 65_536 };
+        let areas = drawn_full(draw, &sizes, table);
+        assert_eq!(check(&areas), 0, "the tables drawn are sound");
+        let mut run = Run { host: &mut *host, areas: Areas::default(), always: true };
+        run.lend(areas);
+        let outlook = run.outlook();
+        let mut bytes = Vec::new();
+        for _ in 0..6 {
+            bytes.extend(write(draw.below(65_536), &draw.bytes(PAGE)));
+            bytes.extend(read(draw.below(65_536), draw.within(outlook.floor, outlook.now)));
+            bytes.extend(mark());
+            bytes.extend(revert(draw.within(outlook.floor, outlook.now)));
+        }
+        for step in [0, 5, 40] {
+            bytes.extend(reclaim((outlook.floor + step).min(outlook.now)));
+        }
+        for _ in 0..6 {
+            bytes.extend(write(draw.below(65_536), &draw.bytes(PAGE)));
+            bytes.extend(revert(draw.within(outlook.now - 2, outlook.now)));
+            bytes.extend(read(draw.below(65_536), outlook.now));
+        }
+        bytes.extend(reclaim(outlook.now));
+        let area = draw.bytes(20_000);
+        run.batch(&bytes, &area, |_, _| {});
+        // The same tables with one number changed, anywhere.
+        let sound = drawn_full(draw, &sizes, table);
+        for _ in 0..3 {
+            let mut areas = sound.clone();
+            change_number(draw, &mut areas);
+            run.lend(areas);
+            run.batch(&mark(), &area[..9], |_, _| {});
+        }
+    }
+    host.end("full tables");
+}
+
+// ---------------------------------------------------------------------------------------------
+// A hundred years
+
+/// A hundred years are 5,218 weeks. Weekly changes of one group of settings over full tables: writes to
+/// some of the group's 128 pages and a mark; now and then a set-back, some of them undone weeks later;
+/// every month a reclaim that leaves a year, in some decades ten. In the last decades the record table
+/// gets full now and then. The lent areas are compared every `interval` weeks, answers and counts
+/// after every call.
+pub fn hundred_years(host: &mut dyn Host, seed: u64, weeks: u64, interval: u64) {
+    let draw = &mut Draw::new(seed);
+    let sizes = Sizes { size: 65_536, branches: 4_096, records: 65_536, places: 65_536 };
+    let mut run = Run { host: &mut *host, areas: Areas::default(), always: false };
+    run.lend(drawn_areas(draw, &sizes));
+    run.fresh(65_536);
+    run.host.compare(&run.areas);
+
+    // The pages in use from the start: 100 of each of 512 groups.
+    for part in 0..64 {
+        let mut bytes = Vec::new();
+        for group in 8 * part..8 * part + 8 {
+            for page in 0..100 {
+                bytes.extend(write(128 * group + page, &draw.bytes(PAGE)));
+            }
+        }
+        run.batch(&bytes, &[0x11; 5 * 800], |_, _| {});
+    }
+    run.host.compare(&run.areas);
+
+    // The moment to revert to, to undo a set-back, and the week to do so.
+    let mut undo: Option<(u64, u64)> = None;
+    for week in 0..weeks {
+        let outlook = run.outlook();
+        let mut bytes = Vec::new();
+        let group = draw.below(512);
+        for _ in 0..draw.within(8, 40) {
+            bytes.extend(write(128 * group + draw.below(128), &draw.bytes(PAGE)));
+        }
+        bytes.extend(mark());
+        let now = outlook.now + 1;
+        for _ in 0..4 {
+            bytes.extend(read(draw.below(65_536), draw.within(outlook.floor, now)));
+        }
+        let mut undo_at = None;
+        match undo {
+            Some((sealed, when)) if when == week => {
+                bytes.extend(revert(sealed));
+                undo = None;
+            }
+            None if draw.percent(25) => {
+                let moment = now.saturating_sub(draw.within(1, 30)).max(outlook.floor);
+                bytes.extend(revert(moment));
+                if draw.percent(50) {
+                    undo_at = Some(week + draw.within(1, 8));
+                }
+            }
+            _ => {}
+        }
+        if week % 13 % 4 == 3 {
+            let years = if week / 522 % 3 == 1 { 10 } else { 1 };
+            bytes.extend(reclaim(now.saturating_sub(65 * years).max(outlook.floor)));
+            bytes.extend(read(128 * group, now));
+        }
+        let mut sealed = None;
+        run.batch(&bytes, &[0x22; 261 * 60], |request, answer| {
+            if matches!(request, Request::Revert { .. }) && answer.refusal == 0 {
+                sealed = Some(u64::from(answer.number));
+            }
+        });
+        if let (Some(sealed), Some(week)) = (sealed, undo_at) {
+            undo = Some((sealed, week));
+        }
+        if (week + 1) % interval == 0 || week + 1 == weeks {
+            run.host.compare(&run.areas);
+        }
+    }
+    host.end(&format!("weekly changes, {weeks} weeks"));
+}
+
+// ---------------------------------------------------------------------------------------------
+// Counting
+
+#[derive(Default)]
+pub struct Counts {
+    pub calls: u64,
+    pub compared: u64,
+    pub differ: u64,
+    pub answered: u64,
+    pub stops: [u64; 16],
+    pub refusals: [u64; 16],
+}
+
+/// All families, in order. `scale` is in hundredths of the usual number of cases.
+pub fn all(host: &mut dyn Host, seed: u64, scale: u64, families: &str) {
+    let part = |usual: u64| (usual * scale / 100).max(1);
+    let chosen = |name: &str| families == "all" || families.split(',').any(|family| family == name);
+    if chosen("examples") {
+        examples(host, seed);
+    }
+    if chosen("lists") {
+        lists(host, seed, part(30_000));
+    }
+    if chosen("longer") {
+        longer_lists(host, seed, part(100));
+    }
+    if chosen("sound") {
+        sound_tables(host, seed, part(80_000));
+    }
+    if chosen("damaged") {
+        damaged_tables(host, seed, part(200_000));
+    }
+    if chosen("edges") {
+        edge_sizes(host, seed);
+    }
+    if chosen("empty") {
+        empty_areas(host, seed);
+    }
+    if chosen("full") {
+        full_tables(host, seed, part(8));
+    }
+    if chosen("years") {
+        hundred_years(host, seed, part(5_218), 261);
+    }
+}

@@ -1,0 +1,283 @@
+//! Tables drawn: sound ones of any shape, and damage to them.
+
+use crate::draw::Draw;
+use reference::*;
+use std::collections::BTreeSet;
+
+pub struct Sizes {
+    pub size: u32,
+    pub branches: usize,
+    pub records: usize,
+    pub places: usize,
+}
+
+pub fn drawn_count(draw: &mut Draw) -> usize {
+    (match draw.below(10) {
+        0..=2 => draw.within(1, 4),
+        3..=7 => draw.within(4, 16),
+        _ => draw.within(16, 48),
+    }) as usize
+}
+
+pub fn drawn_sizes(draw: &mut Draw) -> Sizes {
+    let size = match draw.below(10) {
+        0 => 65_536,
+        1 => draw.within(1, 65_536),
+        _ => draw.within(1, 8),
+    } as u32;
+    let records = drawn_count(draw);
+    let places = if draw.percent(50) { records } else { drawn_count(draw) };
+    Sizes { size, branches: drawn_count(draw), records, places }
+}
+
+pub fn drawn_areas(draw: &mut Draw, sizes: &Sizes) -> Areas {
+    Areas {
+        head: draw.bytes(HEAD_BYTES),
+        branches: draw.bytes(BRANCH_BYTES * sizes.branches),
+        records: draw.bytes(RECORD_BYTES * sizes.records),
+        places: draw.bytes(PLACE_BYTES * sizes.places),
+        slab: draw.bytes(PAGE * sizes.places),
+    }
+}
+
+/// Areas with these branch rows and records, places in any order, and any bytes past the counts.
+fn laid_out(
+    draw: &mut Draw,
+    sizes: &Sizes,
+    rows: &[(u64, u64, u64)],
+    pairs: &BTreeSet<(u32, u32)>,
+    now: u64,
+    floor: u64,
+) -> Areas {
+    let mut areas = drawn_areas(draw, sizes);
+    let mut places: Vec<u32> = (0..sizes.places as u32).collect();
+    for index in (1..places.len()).rev() {
+        places.swap(index, draw.below(index as u64 + 1) as usize);
+    }
+    for (row, (start, end, cut)) in rows.iter().enumerate() {
+        set_number_at(&mut areas.branches, 3 * row, *start as u32);
+        set_number_at(&mut areas.branches, 3 * row + 1, *end as u32);
+        set_number_at(&mut areas.branches, 3 * row + 2, *cut as u32);
+    }
+    areas.places.fill(0);
+    for (row, (address, moment)) in pairs.iter().enumerate() {
+        set_number_at(&mut areas.records, 3 * row, *address);
+        set_number_at(&mut areas.records, 3 * row + 1, *moment);
+        set_number_at(&mut areas.records, 3 * row + 2, places[row]);
+        set_number_at(&mut areas.places, places[row] as usize, row as u32 + 1);
+    }
+    let head = [sizes.size, rows.len() as u32, pairs.len() as u32, now as u32, floor as u32];
+    for (index, number) in head.iter().enumerate() {
+        set_number_at(&mut areas.head, index, *number);
+    }
+    areas
+}
+
+/// Sound tables drawn row by row: branches with gaps up to the floor, cuts anywhere in earlier rows,
+/// records anywhere in the rows, places in any order, any bytes past the counts.
+pub fn drawn_sound(draw: &mut Draw, sizes: &Sizes) -> Areas {
+    let last = u64::from(OPEN_END);
+    let branch_count = draw.within(1, sizes.branches as u64) as usize;
+    let long = draw.percent(20);
+    let gaps_before = draw.below(branch_count as u64 + 1) as usize;
+    let mut rows: Vec<(u64, u64, u64)> = Vec::new();
+    let mut floor_at_least = 0;
+    let mut next = 0;
+    for row in 0..branch_count {
+        let mut start = next;
+        if row > 0 && row < gaps_before && draw.percent(60) {
+            start += if long { draw.below(100_000) } else { draw.within(1, 4) };
+        }
+        if row > 0 && start != next {
+            floor_at_least = start;
+        }
+        let length = if long { draw.below(100_000) } else { draw.below(4) };
+        let end = if row + 1 == branch_count { last } else { start + length };
+        let mut cut = 0;
+        if row > 0 {
+            let parent = if draw.percent(50) { row - 1 } else { draw.below(row as u64) as usize };
+            let (from, to, _) = rows[parent];
+            cut = match draw.below(4) {
+                0 => from,
+                1 => to,
+                _ => draw.within(from, to),
+            };
+        }
+        rows.push((start, end, cut));
+        next = end + 1;
+    }
+    let open_start = rows[branch_count - 1].0;
+    let now = match draw.below(12) {
+        0 => last - draw.below(3),
+        1 => draw.within(open_start, last),
+        _ => open_start + draw.below(8),
+    }
+    .max(open_start)
+    .max(floor_at_least);
+    let floor = match draw.below(3) {
+        0 => floor_at_least,
+        1 => draw.within(floor_at_least, now),
+        _ => draw.within(floor_at_least, now.min(floor_at_least + 10)),
+    };
+    let mut pairs = BTreeSet::new();
+    let most = sizes.records.min(sizes.places) as u64;
+    for _ in 0..draw.below(most + 1) {
+        let (start, end, _) = rows[draw.below(branch_count as u64) as usize];
+        let address = match draw.below(10) {
+            0 => u64::from(sizes.size) - 1,
+            1 => draw.below(u64::from(sizes.size)),
+            _ => draw.below(u64::from(sizes.size.min(5))),
+        };
+        let moment = match draw.below(4) {
+            0 => start,
+            1 => end.min(now),
+            _ => draw.within(start, end.min(now)),
+        };
+        pairs.insert((address as u32, moment as u32));
+    }
+    laid_out(draw, sizes, &rows, &pairs, now, floor)
+}
+
+/// Sound tables with all branch rows in use and the record and place tables full or nearly so.
+pub fn drawn_full(draw: &mut Draw, sizes: &Sizes, table: u64) -> Areas {
+    let mut rows: Vec<(u64, u64, u64)> = Vec::new();
+    let mut next = 0;
+    let branch_count = sizes.branches - if table % 2 == 0 { 0 } else { 5 };
+    for row in 0..branch_count {
+        let end = if row + 1 == branch_count { u64::from(OPEN_END) } else { next + draw.below(6) };
+        let mut cut = 0;
+        if row > 0 {
+            // Long lines of parents, with a side branch now and then.
+            let parent = if draw.percent(80) { row - 1 } else { row - draw.within(1, row.min(40) as u64) as usize };
+            cut = draw.within(rows[parent].0, rows[parent].1);
+        }
+        rows.push((next, end, cut));
+        next = end + 1;
+    }
+    let open_start = rows[branch_count - 1].0;
+    let now = open_start + 3;
+    let floor = now - 200;
+    let record_count = sizes.records - if table % 2 == 0 { 0 } else { 4 };
+    let mut pairs = BTreeSet::new();
+    while pairs.len() < record_count {
+        let address = if draw.percent(50) { draw.below(400) } else { draw.below(65_536) };
+        pairs.insert((address as u32, draw.below(now + 1) as u32));
+    }
+    laid_out(draw, sizes, &rows, &pairs, now, floor)
+}
+
+pub fn area_of(areas: &mut Areas, index: u64) -> &mut Vec<u8> {
+    match index {
+        0 => &mut areas.head,
+        1 => &mut areas.branches,
+        2 => &mut areas.records,
+        3 => &mut areas.places,
+        _ => &mut areas.slab,
+    }
+}
+
+/// Changes one number of the head or of a table.
+pub fn change_number(draw: &mut Draw, areas: &mut Areas) {
+    if areas.head.len() < HEAD_BYTES {
+        return;
+    }
+    let head: Vec<u32> = (0..5).map(|index| number_at(&areas.head, index)).collect();
+    let which = draw.below(4);
+    // Mostly one that is counted.
+    let counted = match which {
+        0 => 5,
+        1 => 3 * u64::from(head[1]),
+        2 => 3 * u64::from(head[2]),
+        _ => 0,
+    };
+    let area = area_of(areas, which);
+    let numbers = area.len() / 4;
+    if numbers == 0 {
+        return;
+    }
+    let most = if counted > 0 && counted <= numbers as u64 && draw.percent(90) { counted } else { numbers as u64 };
+    let at = draw.below(most) as usize;
+    let old = number_at(area, at);
+    let new = match draw.below(9) {
+        0 | 1 => old.wrapping_add(1),
+        2 | 3 => old.wrapping_sub(1),
+        4 => 0,
+        5 => draw.one_of(&[1, 2, 3, 4_096, 4_097, 65_535, 65_536, 65_537, 4_294_967_294, 4_294_967_295]) as u32,
+        6 => head[draw.below(5) as usize],
+        7 => number_at(area, draw.below(numbers as u64) as usize),
+        _ => draw.next() as u32,
+    };
+    set_number_at(area, at, new);
+}
+
+fn swap_rows(draw: &mut Draw, areas: &mut Areas) {
+    let which = draw.within(1, 3);
+    let width = if which == 3 { PLACE_BYTES } else { BRANCH_BYTES };
+    let area = area_of(areas, which);
+    let rows = (area.len() / width) as u64;
+    if rows < 2 {
+        return;
+    }
+    let first = draw.below(rows - 1) as usize;
+    let second = if draw.percent(70) { first + 1 } else { draw.below(rows) as usize };
+    for byte in 0..width {
+        area.swap(first * width + byte, second * width + byte);
+    }
+}
+
+/// Changes the length of one area: by bytes, by numbers, by rows, or to none at all.
+fn change_length(draw: &mut Draw, areas: &mut Areas) {
+    let which = draw.below(5);
+    let width = match which {
+        0 => 20,
+        1 | 2 => 12,
+        3 => 4,
+        _ => 256,
+    };
+    let by = match draw.below(4) {
+        0 => draw.within(1, 3),
+        1 => 4 * draw.within(1, 6),
+        2 => width,
+        _ => width * draw.within(1, 3),
+    } as usize;
+    let more = draw.bytes(by);
+    let empty = draw.percent(10);
+    let longer = draw.percent(50);
+    let area = area_of(areas, which);
+    if empty {
+        area.clear();
+    } else if longer {
+        area.extend(more);
+    } else {
+        area.truncate(area.len().saturating_sub(by));
+    }
+    // Sometimes the slab follows the places, so that the lengths may be right again.
+    if which == 3 && draw.percent(50) {
+        let length = 64 * areas.places.len();
+        areas.slab.resize(length, 0xA5);
+    }
+}
+
+pub fn damage(draw: &mut Draw, areas: &mut Areas) {
+    match draw.below(10) {
+        0..=4 => {
+            for _ in 0..draw.one_of(&[1, 1, 1, 2, 3]) {
+                change_number(draw, areas);
+            }
+        }
+        5 => {
+            for _ in 0..draw.within(1, 12) {
+                change_number(draw, areas);
+            }
+        }
+        6 => swap_rows(draw, areas),
+        7 | 8 => change_length(draw, areas),
+        _ => {
+            change_length(draw, areas);
+            change_number(draw, areas);
+            if draw.percent(30) {
+                swap_rows(draw, areas);
+            }
+        }
+    }
+}

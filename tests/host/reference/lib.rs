@@ -1,0 +1,748 @@
+//! The page history store of document 01, written from that document alone and as plainly as it reads.
+//! It works on the same byte areas as the library that it is compared with: every number of head and
+//! tables is four bytes, most significant first. Each batch turns the bytes into rows, checks them,
+//! serves the requests on the rows and turns the rows back into bytes.
+
+/// The end of the branch that is still open.
+pub const OPEN_END: u32 = 4_294_967_295;
+pub const PAGE: usize = 256;
+pub const HEAD_BYTES: usize = 20;
+pub const BRANCH_BYTES: usize = 12;
+pub const RECORD_BYTES: usize = 12;
+pub const PLACE_BYTES: usize = 4;
+pub const MOST_BRANCHES: usize = 4_096;
+pub const MOST_RECORDS: usize = 65_536;
+pub const MOST_PLACES: usize = 65_536;
+pub const LARGEST_SIZE: u32 = 65_536;
+
+/// With fewer readable moments and fewer records than this a reclaim tries every moment, as the document
+/// defines it. Else it goes by branch; `kept_by_branch` says why that is the same.
+const FEW_MOMENTS: u32 = 40;
+const FEW_RECORDS: u32 = 100;
+
+#[derive(Clone, Copy, Debug, PartialEq, Eq)]
+pub struct Head {
+    pub size: u32,
+    pub branch_count: u32,
+    pub record_count: u32,
+    pub now: u32,
+    pub floor: u32,
+}
+
+#[derive(Clone, Copy, Debug, PartialEq, Eq)]
+pub struct Branch {
+    pub start: u32,
+    pub end: u32,
+    pub cut: u32,
+}
+
+#[derive(Clone, Copy, Debug, PartialEq, Eq)]
+pub struct Record {
+    pub address: u32,
+    pub moment: u32,
+    pub place: u32,
+}
+
+/// The five lent areas.
+#[derive(Clone, Debug, PartialEq, Eq, Default)]
+pub struct Areas {
+    pub head: Vec<u8>,
+    pub branches: Vec<u8>,
+    pub records: Vec<u8>,
+    pub places: Vec<u8>,
+    pub slab: Vec<u8>,
+}
+
+/// What a batch reports.
+#[derive(Clone, Copy, Debug, PartialEq, Eq, Default)]
+pub struct Report {
+    pub stop: u32,
+    pub answered: u64,
+    pub request_bytes: u64,
+    pub answer_bytes: u64,
+}
+
+#[derive(Clone, Debug, PartialEq, Eq)]
+pub enum Request {
+    Write { address: u32, page: Vec<u8> },
+    Mark,
+    Revert { moment: u32 },
+    Read { address: u32, moment: u32 },
+    Reclaim { moment: u32 },
+}
+
+/// An answer before it is written out: a refusal has number 0 and no page.
+#[derive(Clone, Debug, PartialEq, Eq)]
+pub struct Answer {
+    pub refusal: u32,
+    pub number: u32,
+    pub page: Option<Vec<u8>>,
+}
+
+/// For each counted record row and each counted branch row: does a reclaim keep it?
+#[derive(Clone, Debug, PartialEq, Eq)]
+pub struct Kept {
+    pub records: Vec<bool>,
+    pub branches: Vec<bool>,
+}
+
+/// What an accepted request changes.
+enum Change {
+    Nothing,
+    Write { address: u32, page: Vec<u8> },
+    Mark,
+    Revert { cut: u32 },
+    Reclaim { floor: u32, kept: Kept },
+}
+
+// ---------------------------------------------------------------------------------------------
+// Numbers and rows
+
+pub fn number_at(bytes: &[u8], index: usize) -> u32 {
+    let at = 4 * index;
+    u32::from_be_bytes([bytes[at], bytes[at + 1], bytes[at + 2], bytes[at + 3]])
+}
+
+pub fn set_number_at(bytes: &mut [u8], index: usize, value: u32) {
+    bytes[4 * index..4 * index + 4].copy_from_slice(&value.to_be_bytes());
+}
+
+/// The store as rows. The tables have all rows lent; those past a count are carried along unread.
+#[derive(Clone, Debug, PartialEq, Eq)]
+pub struct Store {
+    pub head: Head,
+    pub branches: Vec<Branch>,
+    pub records: Vec<Record>,
+    pub places: Vec<u32>,
+    pub slab: Vec<u8>,
+}
+
+fn lengths_allowed(areas: &Areas) -> bool {
+    let whole = areas.head.len() == HEAD_BYTES
+        && areas.branches.len() % BRANCH_BYTES == 0
+        && areas.records.len() % RECORD_BYTES == 0
+        && areas.places.len() % PLACE_BYTES == 0;
+    let branches = areas.branches.len() / BRANCH_BYTES;
+    let records = areas.records.len() / RECORD_BYTES;
+    let places = areas.places.len() / PLACE_BYTES;
+    whole
+        && (1..=MOST_BRANCHES).contains(&branches)
+        && (1..=MOST_RECORDS).contains(&records)
+        && (1..=MOST_PLACES).contains(&places)
+        && areas.slab.len() == PAGE * places
+}
+
+/// Reads the areas, whose lengths are allowed, as rows.
+fn rows_of(areas: &mut Areas) -> Store {
+    let head = Head {
+        size: number_at(&areas.head, 0),
+        branch_count: number_at(&areas.head, 1),
+        record_count: number_at(&areas.head, 2),
+        now: number_at(&areas.head, 3),
+        floor: number_at(&areas.head, 4),
+    };
+    let mut branches = Vec::new();
+    for row in areas.branches.chunks_exact(BRANCH_BYTES) {
+        branches.push(Branch { start: number_at(row, 0), end: number_at(row, 1), cut: number_at(row, 2) });
+    }
+    let mut records = Vec::new();
+    for row in areas.records.chunks_exact(RECORD_BYTES) {
+        records.push(Record { address: number_at(row, 0), moment: number_at(row, 1), place: number_at(row, 2) });
+    }
+    let mut places = Vec::new();
+    for row in areas.places.chunks_exact(PLACE_BYTES) {
+        places.push(number_at(row, 0));
+    }
+    // The slab is handed over and back, since it may be large.
+    let slab = std::mem::take(&mut areas.slab);
+    Store { head, branches, records, places, slab }
+}
+
+fn bytes_of(store: Store, areas: &mut Areas) {
+    set_number_at(&mut areas.head, 0, store.head.size);
+    set_number_at(&mut areas.head, 1, store.head.branch_count);
+    set_number_at(&mut areas.head, 2, store.head.record_count);
+    set_number_at(&mut areas.head, 3, store.head.now);
+    set_number_at(&mut areas.head, 4, store.head.floor);
+    for (row, branch) in areas.branches.chunks_exact_mut(BRANCH_BYTES).zip(&store.branches) {
+        set_number_at(row, 0, branch.start);
+        set_number_at(row, 1, branch.end);
+        set_number_at(row, 2, branch.cut);
+    }
+    for (row, record) in areas.records.chunks_exact_mut(RECORD_BYTES).zip(&store.records) {
+        set_number_at(row, 0, record.address);
+        set_number_at(row, 1, record.moment);
+        set_number_at(row, 2, record.place);
+    }
+    for (row, place) in areas.places.chunks_exact_mut(PLACE_BYTES).zip(&store.places) {
+        set_number_at(row, 0, *place);
+    }
+    areas.slab = store.slab;
+}
+
+// ---------------------------------------------------------------------------------------------
+// A fresh store
+
+/// Makes a fresh store in the areas; the result is 0, or refusal 1 with nothing changed.
+pub fn fresh(size: u32, areas: &mut Areas) -> u32 {
+    if !(1..=LARGEST_SIZE).contains(&size) || !lengths_allowed(areas) {
+        return 1;
+    }
+    areas.head.fill(0);
+    areas.branches.fill(0);
+    areas.records.fill(0);
+    areas.places.fill(0);
+    set_number_at(&mut areas.head, 0, size);
+    set_number_at(&mut areas.head, 1, 1);
+    set_number_at(&mut areas.branches, 1, OPEN_END);
+    0
+}
+
+// ---------------------------------------------------------------------------------------------
+// Sound tables
+
+impl Store {
+    pub fn counted_branches(&self) -> &[Branch] {
+        &self.branches[..self.head.branch_count as usize]
+    }
+
+    pub fn counted_records(&self) -> &[Record] {
+        &self.records[..self.head.record_count as usize]
+    }
+
+    fn head_allowed(&self) -> bool {
+        let head = &self.head;
+        (1..=LARGEST_SIZE).contains(&head.size)
+            && 1 <= head.branch_count
+            && head.branch_count as usize <= self.branches.len()
+            && head.record_count as usize <= self.records.len()
+            && head.floor <= head.now
+    }
+
+    fn branches_sound(&self) -> bool {
+        let rows = self.counted_branches();
+        let last = rows.len() - 1;
+        // The first row starts at 0 with cut 0.
+        if rows[0].start != 0 || rows[0].cut != 0 {
+            return false;
+        }
+        for i in 0..rows.len() {
+            // Each start is at most its end.
+            if rows[i].start > rows[i].end {
+                return false;
+            }
+            // Exactly the last counted row is still open.
+            if (rows[i].end == OPEN_END) != (i == last) {
+                return false;
+            }
+            if i > 0 {
+                // Each start is above the end before it.
+                let before = rows[i - 1];
+                if rows[i].start <= before.end {
+                    return false;
+                }
+                // It follows the previous end by one or is at most the floor.
+                if rows[i].start != before.end + 1 && rows[i].start > self.head.floor {
+                    return false;
+                }
+                // The cut lies inside an earlier row, ends included.
+                if !rows[..i].iter().any(|row| row.start <= rows[i].cut && rows[i].cut <= row.end) {
+                    return false;
+                }
+            }
+        }
+        // The open row's start is at most now.
+        rows[last].start <= self.head.now
+    }
+
+    fn records_sound(&self) -> bool {
+        let rows = self.counted_records();
+        for i in 0..rows.len() {
+            let record = rows[i];
+            // Strictly ascending by address, then moment.
+            if i > 0 && (rows[i - 1].address, rows[i - 1].moment) >= (record.address, record.moment) {
+                return false;
+            }
+            if record.address >= self.head.size {
+                return false;
+            }
+            if record.moment > self.head.now || self.branch_holding(record.moment).is_none() {
+                return false;
+            }
+            if record.place as usize >= self.places.len() || self.places[record.place as usize] as usize != i + 1 {
+                return false;
+            }
+        }
+        self.places.iter().filter(|place| **place != 0).count() == rows.len()
+    }
+
+    /// The check before a batch: 0, or the refusal 1, 2 or 3, the lowest that holds.
+    fn check(&self) -> u32 {
+        if !self.head_allowed() {
+            1
+        } else if !self.branches_sound() {
+            2
+        } else if !self.records_sound() {
+            3
+        } else {
+            0
+        }
+    }
+
+    // -----------------------------------------------------------------------------------------
+    // Reading
+
+    /// The counted branch row that holds the moment. The rows are sound, so they ascend and do not
+    /// overlap: the only row that can hold it is the last whose start is at most the moment.
+    pub fn branch_holding(&self, moment: u32) -> Option<usize> {
+        let rows = self.counted_branches();
+        let started = rows.partition_point(|row| row.start <= moment);
+        if started > 0 && moment <= rows[started - 1].end {
+            Some(started - 1)
+        } else {
+            None
+        }
+    }
+
+    /// The counted record rows of an address, which lie together since the rows ascend by address.
+    fn rows_of_address(&self, address: u32) -> std::ops::Range<usize> {
+        let rows = self.counted_records();
+        let from = rows.partition_point(|record| record.address < address);
+        let to = rows.partition_point(|record| record.address <= address);
+        from..to
+    }
+
+    /// The latest of these record rows from one moment to another, both included. The rows ascend by
+    /// moment, so it is the last that fits.
+    fn latest(&self, rows: std::ops::Range<usize>, from: u32, to: u32) -> Option<usize> {
+        let mut latest = None;
+        for row in rows {
+            if from <= self.records[row].moment && self.records[row].moment <= to {
+                latest = Some(row);
+            }
+        }
+        latest
+    }
+
+    /// The record row that a read gives (document 004, Figure 1). The moment lies inside a counted row.
+    pub fn find(&self, address: u32, moment: u32) -> Option<usize> {
+        let rows = self.rows_of_address(address);
+        let mut moment = moment;
+        loop {
+            let branch = self.branch_holding(moment).expect("the moment lies inside a counted row");
+            let found = self.latest(rows.clone(), self.branches[branch].start, moment);
+            if found.is_some() || branch == 0 {
+                return found;
+            }
+            moment = self.branches[branch].cut;
+        }
+    }
+
+    fn page_at(&self, place: u32) -> &[u8] {
+        let from = PAGE * place as usize;
+        &self.slab[from..from + PAGE]
+    }
+
+    // -----------------------------------------------------------------------------------------
+    // Reclaiming
+
+    /// What a reclaim keeps, as the document defines it: each record that some read from the floor to
+    /// now gives, each branch on the way from such a moment through parents to the first row.
+    pub fn kept_by_every_moment(&self, floor: u32) -> Kept {
+        let records = self.counted_records();
+        let mut kept =
+            Kept { records: vec![false; records.len()], branches: vec![false; self.counted_branches().len()] };
+        for moment in floor..=self.head.now {
+            for record in records {
+                if let Some(row) = self.find(record.address, moment) {
+                    kept.records[row] = true;
+                }
+            }
+            self.keep_way(moment, &mut kept.branches);
+        }
+        kept
+    }
+
+    fn keep_way(&self, moment: u32, keep: &mut [bool]) {
+        let mut branch = self.branch_holding(moment).expect("a readable moment lies inside a counted row");
+        keep[branch] = true;
+        while branch != 0 {
+            branch = self.parent(branch);
+            keep[branch] = true;
+        }
+    }
+
+    fn parent(&self, branch: usize) -> usize {
+        self.branch_holding(self.branches[branch].cut).expect("the cut lies inside an earlier row")
+    }
+
+    /// The same without trying every moment. A branch with readable moments has a first one: the
+    /// floor, or its start where that is above the floor. Take a read at a readable moment m, in
+    /// branch b, whose first readable moment is f, and let r be the latest record at the address from
+    /// b's start to m.
+    /// - r is at the floor or later: the read at r's own moment, which is readable, gives r too. And
+    ///   every record at the floor or later is given by the read at its own moment.
+    /// - r is below the floor: then f is the floor, and no record lies between r and m, so the read
+    ///   at f gives r too.
+    /// - there is no r: then there is none from b's start to f either, and both reads go on in the
+    ///   parent with the same cut.
+    /// So it is enough to keep the records at the floor or later, and what reads at the first readable
+    /// moments give. The branches on the way depend on b alone.
+    ///
+    /// Each branch on the way is searched from its start up to a moment: the first readable moment in
+    /// b, the cut below it in the others. A parent's part lies before its child's, so the first
+    /// record that the search finds is the latest of all records that lie in one of these parts.
+    pub fn kept_by_branch(&self, floor: u32) -> Kept {
+        let records = self.counted_records();
+        let branches = self.counted_branches();
+        let mut kept = Kept { records: vec![false; records.len()], branches: vec![false; branches.len()] };
+        let holding = |moment| self.branch_holding(moment).expect("the moment lies inside a counted row");
+        let branch_of: Vec<usize> = records.iter().map(|record| holding(record.moment)).collect();
+        for (branch, row) in branches.iter().enumerate() {
+            if row.end >= floor {
+                self.keep_way(row.start.max(floor), &mut kept.branches);
+                let searched = self.searched_up_to(branch, row.start.max(floor));
+                for row in 0..records.len() {
+                    let on_way = |row: usize| searched[branch_of[row]].is_some_and(|to| records[row].moment <= to);
+                    let last_on_way = on_way(row)
+                        && !(row + 1..records.len())
+                            .take_while(|later| records[*later].address == records[row].address)
+                            .any(on_way);
+                    if last_on_way {
+                        kept.records[row] = true;
+                    }
+                }
+            }
+        }
+        for (row, record) in records.iter().enumerate() {
+            if record.moment >= floor {
+                kept.records[row] = true;
+            }
+        }
+        kept
+    }
+
+    /// For each branch: up to which moment a read at this moment, in this branch, searches it, if at all.
+    fn searched_up_to(&self, branch: usize, moment: u32) -> Vec<Option<u32>> {
+        let mut searched = vec![None; self.counted_branches().len()];
+        searched[branch] = Some(moment);
+        let mut branch = branch;
+        while branch != 0 {
+            let parent = self.parent(branch);
+            searched[parent] = Some(self.branches[branch].cut);
+            branch = parent;
+        }
+        searched
+    }
+
+    fn kept(&self, floor: u32) -> Kept {
+        if self.head.now - floor < FEW_MOMENTS && self.head.record_count < FEW_RECORDS {
+            self.kept_by_every_moment(floor)
+        } else {
+            self.kept_by_branch(floor)
+        }
+    }
+
+    fn reclaim(&mut self, floor: u32, kept: &Kept) {
+        self.head.floor = floor;
+
+        let mut to = 0;
+        for (from, keep) in kept.branches.iter().enumerate() {
+            if *keep {
+                self.branches[to] = self.branches[from];
+                to += 1;
+            }
+        }
+        for row in to..kept.branches.len() {
+            self.branches[row] = Branch { start: 0, end: 0, cut: 0 };
+        }
+        self.head.branch_count = to as u32;
+
+        let mut to = 0;
+        for (from, keep) in kept.records.iter().enumerate() {
+            let record = self.records[from];
+            if *keep {
+                self.records[to] = record;
+                to += 1;
+                self.places[record.place as usize] = to as u32;
+            } else {
+                self.places[record.place as usize] = 0;
+            }
+        }
+        for row in to..kept.records.len() {
+            self.records[row] = Record { address: 0, moment: 0, place: 0 };
+        }
+        self.head.record_count = to as u32;
+    }
+
+    // -----------------------------------------------------------------------------------------
+    // Writing
+
+    /// The counted record row of exactly this address and moment.
+    fn row_of(&self, address: u32, moment: u32) -> Option<usize> {
+        self.rows_of_address(address).find(|row| self.records[*row].moment == moment)
+    }
+
+    /// The place that a new record takes. The document leaves it open which free place that is; both
+    /// sides of a comparison byte for byte take the first.
+    fn free_place(&self) -> Option<usize> {
+        self.places.iter().position(|place| *place == 0)
+    }
+
+    fn write(&mut self, address: u32, page: &[u8]) {
+        let now = self.head.now;
+        let place = match self.row_of(address, now) {
+            Some(row) => self.records[row].place as usize,
+            None => {
+                let place = self.free_place().expect("a place is free");
+                let count = self.head.record_count as usize;
+                let row = self.counted_records().partition_point(|r| (r.address, r.moment) < (address, now));
+                // The rows from here on move down by one, and their places name them anew.
+                self.records.copy_within(row..count, row + 1);
+                self.records[row] = Record { address, moment: now, place: place as u32 };
+                self.head.record_count += 1;
+                for moved in row..count + 1 {
+                    self.places[self.records[moved].place as usize] = moved as u32 + 1;
+                }
+                place
+            }
+        };
+        self.slab[PAGE * place..PAGE * place + PAGE].copy_from_slice(page);
+    }
+
+    fn revert(&mut self, moment: u32) {
+        let count = self.head.branch_count as usize;
+        self.branches[count - 1].end = self.head.now;
+        self.head.now += 1;
+        self.branches[count] = Branch { start: self.head.now, end: OPEN_END, cut: moment };
+        self.head.branch_count += 1;
+    }
+
+    // -----------------------------------------------------------------------------------------
+    // One request
+
+    /// The request's own refusal, or 0, in the order that the document gives.
+    fn refusal(&self, request: &Request) -> u32 {
+        let head = &self.head;
+        match request {
+            Request::Write { address, .. } => {
+                if *address >= head.size {
+                    4
+                } else if self.row_of(*address, head.now).is_some() {
+                    0
+                } else if head.record_count as usize == self.records.len() {
+                    5
+                } else if self.free_place().is_none() {
+                    6
+                } else {
+                    0
+                }
+            }
+            Request::Mark => {
+                if head.now == OPEN_END {
+                    10
+                } else {
+                    0
+                }
+            }
+            Request::Revert { moment } => {
+                if *moment < head.floor {
+                    8
+                } else if *moment >= head.now {
+                    9
+                } else if head.now == OPEN_END {
+                    10
+                } else if head.branch_count as usize == self.branches.len() {
+                    7
+                } else {
+                    0
+                }
+            }
+            Request::Read { address, moment } => {
+                if *address >= head.size {
+                    4
+                } else if *moment < head.floor {
+                    8
+                } else if *moment > head.now {
+                    9
+                } else {
+                    0
+                }
+            }
+            Request::Reclaim { moment } => {
+                if *moment < head.floor {
+                    8
+                } else if *moment > head.now {
+                    9
+                } else {
+                    0
+                }
+            }
+        }
+    }
+
+    /// The answer that the request gets, and what carrying it out would change; nothing is changed yet.
+    fn decide(&self, request: &Request) -> (Answer, Change) {
+        let refusal = self.refusal(request);
+        if refusal != 0 {
+            return (Answer { refusal, number: 0, page: None }, Change::Nothing);
+        }
+        let now = self.head.now;
+        let mut answer = Answer { refusal: 0, number: now, page: None };
+        let change = match request {
+            Request::Write { address, page } => Change::Write { address: *address, page: page.clone() },
+            Request::Mark => Change::Mark,
+            Request::Revert { moment } => Change::Revert { cut: *moment },
+            Request::Read { address, moment } => {
+                answer.number = *moment;
+                let row = self.find(*address, *moment);
+                answer.page = row.map(|row| self.page_at(self.records[row].place).to_vec());
+                Change::Nothing
+            }
+            Request::Reclaim { moment } => {
+                let kept = self.kept(*moment);
+                answer.number = kept.records.iter().filter(|keep| !**keep).count() as u32;
+                Change::Reclaim { floor: *moment, kept }
+            }
+        };
+        (answer, change)
+    }
+
+    fn carry_out(&mut self, change: Change) {
+        match change {
+            Change::Nothing => {}
+            Change::Write { address, page } => self.write(address, &page),
+            Change::Mark => self.head.now += 1,
+            Change::Revert { cut } => self.revert(cut),
+            Change::Reclaim { floor, kept } => self.reclaim(floor, &kept),
+        }
+    }
+}
+
+// ---------------------------------------------------------------------------------------------
+// Requests and answers as bytes
+
+/// Reads the request at the front of the bytes: the request with its length, or the stop number.
+pub fn read_request(bytes: &[u8]) -> Result<(Request, usize), u32> {
+    if bytes.len() < 7 {
+        return Err(11);
+    }
+    let mut packed: u64 = 0;
+    for byte in &bytes[..7] {
+        packed = packed * 256 + u64::from(*byte);
+    }
+    let operation = packed >> 53;
+    let address = (packed >> 37 & 0xFFFF) as u32;
+    let moment = (packed >> 5 & 0xFFFF_FFFF) as u32;
+    let spare = packed & 31;
+    if !(1..=5).contains(&operation) {
+        return Err(12);
+    }
+    // Fields that an operation does not use count as spare.
+    let uses_address = operation == 1 || operation == 4;
+    let uses_moment = operation == 3 || operation == 4 || operation == 5;
+    if spare != 0 || (!uses_address && address != 0) || (!uses_moment && moment != 0) {
+        return Err(13);
+    }
+    match operation {
+        1 => {
+            if bytes.len() < 7 + PAGE {
+                return Err(11);
+            }
+            Ok((Request::Write { address, page: bytes[7..7 + PAGE].to_vec() }, 7 + PAGE))
+        }
+        2 => Ok((Request::Mark, 7)),
+        3 => Ok((Request::Revert { moment }, 7)),
+        4 => Ok((Request::Read { address, moment }, 7)),
+        _ => Ok((Request::Reclaim { moment }, 7)),
+    }
+}
+
+pub fn answer_bytes(answer: &Answer) -> Vec<u8> {
+    let present = u32::from(answer.page.is_some());
+    // Refusal 6 bits, page present 1 bit, spare 1 bit.
+    let mut bytes = vec![(answer.refusal * 4 + present * 2) as u8];
+    bytes.extend_from_slice(&answer.number.to_be_bytes());
+    if let Some(page) = &answer.page {
+        bytes.extend_from_slice(page);
+    }
+    bytes
+}
+
+// ---------------------------------------------------------------------------------------------
+// A batch
+
+/// Runs one batch over the areas and the answer area.
+pub fn batch(areas: &mut Areas, batch: &[u8], answers: &mut [u8]) -> Report {
+    batch_watched(areas, batch, answers, |_, _| {})
+}
+
+/// The same, telling each answered request with its answer.
+pub fn batch_watched(
+    areas: &mut Areas,
+    batch: &[u8],
+    answers: &mut [u8],
+    mut watch: impl FnMut(&Request, &Answer),
+) -> Report {
+    if !lengths_allowed(areas) {
+        return Report { stop: 1, ..Report::default() };
+    }
+    let mut store = rows_of(areas);
+    let refused = store.check();
+    if refused != 0 {
+        areas.slab = store.slab;
+        return Report { stop: refused, ..Report::default() };
+    }
+    let mut report = Report::default();
+    loop {
+        let left = &batch[report.request_bytes as usize..];
+        if left.is_empty() {
+            break;
+        }
+        let (request, length) = match read_request(left) {
+            Ok(read) => read,
+            Err(stop) => {
+                report.stop = stop;
+                break;
+            }
+        };
+        let (answer, change) = store.decide(&request);
+        let written = answer_bytes(&answer);
+        let room = &mut answers[report.answer_bytes as usize..];
+        if written.len() > room.len() {
+            report.stop = 14;
+            break;
+        }
+        store.carry_out(change);
+        room[..written.len()].copy_from_slice(&written);
+        report.answered += 1;
+        report.request_bytes += length as u64;
+        report.answer_bytes += written.len() as u64;
+        watch(&request, &answer);
+    }
+    bytes_of(store, areas);
+    report
+}
+
+/// The check of the areas alone: 0, 1, 2 or 3.
+pub fn check(areas: &Areas) -> u32 {
+    batch(&mut areas.clone(), &[], &mut []).stop
+}
+
+/// The store in areas that pass the check, as rows, without the slab.
+pub fn rows(areas: &Areas) -> Store {
+    let slab = Vec::new();
+    let mut tables = Areas {
+        head: areas.head.clone(),
+        branches: areas.branches.clone(),
+        records: areas.records.clone(),
+        places: areas.places.clone(),
+        slab,
+    };
+    rows_of(&mut tables)
+}
+
+pub mod pictures;
+
+#[cfg(test)]
+mod tests;

@@ -1,0 +1,288 @@
+//! The document's own examples.
+
+use super::*;
+
+fn areas(branches: usize, records: usize, places: usize) -> Areas {
+    Areas {
+        head: vec![0xEE; HEAD_BYTES],
+        branches: vec![0xEE; BRANCH_BYTES * branches],
+        records: vec![0xEE; RECORD_BYTES * records],
+        places: vec![0xEE; PLACE_BYTES * places],
+        slab: vec![0xEE; PAGE * places],
+    }
+}
+
+fn made(size: u32, branches: usize, records: usize, places: usize) -> Areas {
+    let mut areas = areas(branches, records, places);
+    assert_eq!(fresh(size, &mut areas), 0);
+    areas
+}
+
+fn packed(operation: u64, address: u64, moment: u64) -> Vec<u8> {
+    let bits = operation << 53 | address << 37 | moment << 5;
+    bits.to_be_bytes()[1..].to_vec()
+}
+
+fn write(address: u64, letter: u8) -> Vec<u8> {
+    let mut bytes = packed(1, address, 0);
+    bytes.extend([letter; PAGE]);
+    bytes
+}
+
+fn mark() -> Vec<u8> {
+    packed(2, 0, 0)
+}
+
+fn revert(moment: u64) -> Vec<u8> {
+    packed(3, 0, moment)
+}
+
+fn read(address: u64, moment: u64) -> Vec<u8> {
+    packed(4, address, moment)
+}
+
+fn reclaim(moment: u64) -> Vec<u8> {
+    packed(5, 0, moment)
+}
+
+fn answers(areas: &mut Areas, requests: &[Vec<u8>]) -> Vec<(u32, u32, Option<u8>)> {
+    let bytes = requests.concat();
+    let mut area = vec![0x77; 5 * requests.len() + PAGE * requests.len()];
+    let report = batch(areas, &bytes, &mut area);
+    assert_eq!(report.stop, 0);
+    assert_eq!(report.answered, requests.len() as u64);
+    assert_eq!(report.request_bytes, bytes.len() as u64);
+    assert!(area[report.answer_bytes as usize..].iter().all(|byte| *byte == 0x77));
+    let mut list = Vec::new();
+    let mut at = 0;
+    while at < report.answer_bytes as usize {
+        let first = area[at];
+        let number = u32::from_be_bytes([area[at + 1], area[at + 2], area[at + 3], area[at + 4]]);
+        at += 5;
+        let mut page = None;
+        assert_eq!(first & 1, 0);
+        if first & 2 != 0 {
+            page = Some(area[at]);
+            assert!(area[at..at + PAGE].iter().all(|byte| Some(*byte) == page));
+            at += PAGE;
+        }
+        list.push((u32::from(first >> 2), number, page));
+    }
+    list
+}
+
+#[test]
+fn session() {
+    let mut store = made(64, 16, 128, 128);
+    assert_eq!(answers(&mut store, &[read(5, 0)]), [(0, 0, None)]); // P1
+    assert_eq!(answers(&mut store, &[write(5, b'A'), mark()]), [(0, 0, None), (0, 0, None)]); // P2
+    assert_eq!(answers(&mut store, &[write(5, b'B'), mark()]), [(0, 1, None), (0, 1, None)]); // P3
+    assert_eq!(
+        answers(&mut store, &[write(5, b'C'), revert(0), read(5, 3)]),
+        [(0, 2, None), (0, 2, None), (0, 3, Some(b'A'))]
+    ); // P4
+    assert_eq!(
+        answers(&mut store, &[write(5, b'D'), revert(2), read(5, 4)]),
+        [(0, 3, None), (0, 3, None), (0, 4, Some(b'C'))]
+    ); // P5
+    assert_eq!(
+        answers(&mut store, &[read(5, 3), read(5, 2), read(5, 1)]),
+        [(0, 3, Some(b'D')), (0, 2, Some(b'C')), (0, 1, Some(b'B'))]
+    ); // P6
+    let slab = store.slab.clone();
+    assert_eq!(answers(&mut store, &[reclaim(3)]), [(0, 2, None)]); // P7
+    assert_eq!(number_at(&store.head, 1), 3);
+    assert_eq!(answers(&mut store, &[read(5, 2)]), [(8, 0, None)]); // P8
+    assert_eq!(answers(&mut store, &[reclaim(4)]), [(0, 1, None)]); // P9
+    assert_eq!(number_at(&store.head, 1), 2);
+    let left = rows(&store);
+    assert_eq!(left.counted_branches()[1], Branch { start: 4, end: OPEN_END, cut: 2 });
+    assert!(left.branches[2..].iter().all(|row| (row.start, row.end, row.cut) == (0, 0, 0)));
+    assert!(left.records[1..].iter().all(|row| (row.address, row.moment, row.place) == (0, 0, 0)));
+    assert_eq!(left.places.iter().filter(|place| **place != 0).count(), 1);
+    assert_eq!(store.slab, slab);
+    assert_eq!(answers(&mut store, &[read(5, 4)]), [(0, 4, Some(b'C'))]); // P10
+
+    let mut store = made(64, 16, 128, 128);
+    answers(&mut store, &[write(5, b'A'), write(5, b'B')]);
+    assert_eq!(number_at(&store.head, 2), 1); // P11
+
+    // P12
+    let mut store = made(64, 16, 128, 128);
+    assert_eq!(answers(&mut store, &[mark(), revert(1), revert(0)]), [(0, 0, None), (9, 0, None), (0, 1, None)]);
+}
+
+#[test]
+fn whole_case_of_the_batch_program() {
+    let input = [0x40, 0, 0, 0, 0, 0, 0, 0x60, 0, 0, 0, 0, 0, 0, 0x80, 0, 0xA0, 0, 0, 0, 0x40];
+    let output = [0, 0, 0, 0, 0, 0, 0, 0, 0, 1, 0, 0, 0, 0, 2];
+    let mut store = made(64, 16, 128, 128);
+    let mut area = vec![0; 65_536];
+    let report = batch(&mut store, &input, &mut area);
+    assert_eq!(report, Report { stop: 0, answered: 3, request_bytes: 21, answer_bytes: 15 });
+    assert_eq!(area[..15], output);
+}
+
+fn set_head(areas: &mut Areas, numbers: [u32; 5]) {
+    for (index, number) in numbers.iter().enumerate() {
+        set_number_at(&mut areas.head, index, *number);
+    }
+}
+
+fn set_branch(areas: &mut Areas, row: usize, numbers: [u32; 3]) {
+    for (index, number) in numbers.iter().enumerate() {
+        set_number_at(&mut areas.branches, 3 * row + index, *number);
+    }
+}
+
+#[test]
+fn refusal_1() {
+    let mut store = made(6, 2, 2, 2);
+    set_head(&mut store, [6, 1, 0, 1, 2]);
+    assert_eq!(check(&store), 1);
+    set_head(&mut store, [6, 1, 0, 2, 2]);
+    assert_eq!(check(&store), 0);
+    for numbers in [[0, 1, 0, 0, 0], [65_537, 1, 0, 0, 0], [6, 0, 0, 0, 0], [6, 3, 0, 0, 0], [6, 1, 3, 0, 0]] {
+        set_head(&mut store, numbers);
+        assert_eq!(check(&store), 1);
+    }
+    for (b, r, p) in [(0, 1, 1), (1, 0, 1), (1, 1, 0), (4_097, 1, 1), (1, 65_537, 1), (1, 1, 65_537)] {
+        let before = areas(b, r, p);
+        let mut after = before.clone();
+        assert_eq!(fresh(1, &mut after), 1);
+        assert_eq!(after, before);
+    }
+    for (b, r, p) in [(4_096, 1, 1), (1, 65_536, 1), (1, 1, 65_536)] {
+        assert_eq!(check(&made(65_536, b, r, p)), 0);
+    }
+    let mut short = made(6, 2, 2, 2);
+    short.slab.pop();
+    assert_eq!(check(&short), 1);
+    let mut uneven = made(6, 2, 2, 2);
+    uneven.records.push(0);
+    assert_eq!(check(&uneven), 1);
+    assert_eq!(fresh(0, &mut areas(1, 1, 1)), 1);
+    assert_eq!(fresh(65_537, &mut areas(1, 1, 1)), 1);
+}
+
+#[test]
+fn refusal_2() {
+    let mut store = made(6, 2, 2, 2);
+    set_head(&mut store, [6, 2, 0, 4, 0]);
+    set_branch(&mut store, 0, [0, 3, 0]);
+    set_branch(&mut store, 1, [4, OPEN_END, 4]);
+    let before = store.clone();
+    let mut area = [0x77; 16];
+    assert_eq!(batch(&mut store, &mark(), &mut area), Report { stop: 2, ..Report::default() });
+    assert_eq!((store.clone(), area), (before, [0x77; 16]));
+    set_branch(&mut store, 1, [4, OPEN_END, 3]);
+    assert_eq!(check(&store), 0);
+    // A gap is sound up to the floor only.
+    set_head(&mut store, [6, 2, 0, 9, 6]);
+    set_branch(&mut store, 1, [7, OPEN_END, 3]);
+    assert_eq!(check(&store), 2);
+    set_branch(&mut store, 1, [6, OPEN_END, 3]);
+    assert_eq!(check(&store), 0);
+}
+
+#[test]
+fn refusal_3() {
+    let mut store = made(6, 2, 2, 2);
+    answers(&mut store, &[write(1, b'A')]);
+    assert_eq!(check(&store), 0);
+    let place = rows(&store).records[0].place as usize;
+    set_number_at(&mut store.places, place, 0);
+    assert_eq!(check(&store), 3);
+    set_number_at(&mut store.places, place, 1);
+    set_number_at(&mut store.places, 1 - place, 7);
+    assert_eq!(check(&store), 3);
+}
+
+#[test]
+fn refusals_4_to_10() {
+    assert_eq!(answers(&mut made(6, 2, 2, 2), &[read(6, 0)]), [(4, 0, None)]);
+    assert_eq!(
+        answers(&mut made(6, 1, 1, 2), &[write(0, 1), write(1, 1), write(0, 2), read(0, 0)]),
+        [(0, 0, None), (5, 0, None), (0, 0, None), (0, 0, Some(2))]
+    );
+    assert_eq!(answers(&mut made(6, 1, 2, 1), &[write(0, 1), write(1, 1)]), [(0, 0, None), (6, 0, None)]);
+    assert_eq!(answers(&mut made(6, 1, 2, 1), &[mark(), revert(0)]), [(0, 0, None), (7, 0, None)]);
+    assert_eq!(
+        answers(&mut made(6, 1, 2, 1), &[mark(), mark(), mark(), reclaim(3), read(0, 2), read(7, 2)])[3..],
+        [(0, 0, None), (8, 0, None), (4, 0, None)]
+    );
+    assert_eq!(answers(&mut made(6, 2, 2, 1), &[mark(), mark(), mark(), mark(), revert(4)])[4], (9, 0, None));
+    let mut store = made(6, 1, 2, 1);
+    set_head(&mut store, [6, 1, 0, OPEN_END, 0]);
+    assert_eq!(
+        answers(&mut store, &[mark(), revert(OPEN_END as u64), revert(3), write(2, 9), read(2, OPEN_END as u64)]),
+        [(10, 0, None), (9, 0, None), (10, 0, None), (0, OPEN_END, None), (0, OPEN_END, Some(9))]
+    );
+}
+
+fn stop(bytes: &[u8], room: usize) -> Report {
+    batch(&mut made(6, 2, 2, 2), bytes, &mut vec![0; room])
+}
+
+#[test]
+fn stops_11_to_14() {
+    assert_eq!(stop(&[0x40, 0, 0], 100).stop, 11);
+    assert_eq!(stop(&[0; 7], 100).stop, 12);
+    assert_eq!(stop(&[0xC0, 0, 0, 0, 0, 0, 0], 100).stop, 12);
+    assert_eq!(stop(&[0xE0, 0, 0, 0, 0, 0, 0], 100).stop, 12);
+    assert_eq!(stop(&[0x40, 0, 0, 0, 0, 0, 1], 100).stop, 13);
+    assert_eq!(stop(&[0x40, 0, 0, 0, 0, 0, 0x20], 100).stop, 13);
+    assert_eq!(stop(&write(0, 1)[..262], 0).stop, 11);
+    assert_eq!(stop(&mark(), 4), Report { stop: 14, ..Report::default() });
+    assert_eq!(stop(&mark(), 5), Report { stop: 0, answered: 1, request_bytes: 7, answer_bytes: 5 });
+    let list = [write(0, 1), mark(), read(0, 0)].concat();
+    assert_eq!(stop(&list, 10 + 260), Report { stop: 14, answered: 2, request_bytes: 270, answer_bytes: 10 });
+    assert_eq!(stop(&list, 10 + 261), Report { stop: 0, answered: 3, request_bytes: 277, answer_bytes: 271 });
+    // A refusal that does not fit is a stop, too.
+    assert_eq!(stop(&read(9, 0), 4).stop, 14);
+    // A request that does not fit is not carried out.
+    let mut store = made(6, 2, 2, 2);
+    let before = store.clone();
+    assert_eq!(batch(&mut store, &write(0, 1), &mut [0; 4]).stop, 14);
+    assert_eq!(store, before);
+}
+
+#[test]
+fn reclaim_keeps_by_branch() {
+    // Address 1: kept through a cut although a newer record of the parent lies above the cut.
+    let mut store = made(6, 4, 8, 8);
+    answers(&mut store, &[write(1, b'A'), mark(), write(1, b'B'), mark(), revert(0)]);
+    // Now 3, in the branch cut at 0: only A is read from 3 on.
+    assert_eq!(answers(&mut store, &[reclaim(3), read(1, 3)]), [(0, 1, None), (0, 3, Some(b'A'))]);
+    assert_eq!(answers(&mut store, &[reclaim(3)]), [(0, 0, None)]);
+}
+
+/// The two ways to say what a reclaim keeps are the same, on tables of any shape.
+#[test]
+fn kept_by_branch_is_kept_by_every_moment() {
+    let mut state = 1_u64;
+    let mut draw = |limit: u64| {
+        state = state.wrapping_mul(6_364_136_223_846_793_005).wrapping_add(1_442_695_040_888_963_407);
+        (state >> 33) % limit
+    };
+    for _ in 0..3_000 {
+        let mut store = made(5, 12, 30, 30);
+        for _ in 0..60 {
+            let head: Vec<u64> = (0..5).map(|index| u64::from(number_at(&store.head, index))).collect();
+            let moment = head[4] + draw(head[3] - head[4] + 1);
+            let request = match draw(10) {
+                0..=3 => write(draw(5), b'x'),
+                4 => mark(),
+                5..=7 => revert(moment),
+                8 => reclaim(head[4] + draw(2)),
+                _ => reclaim(head[4]),
+            };
+            batch(&mut store, &request, &mut [0; 300]);
+        }
+        assert_eq!(check(&store), 0);
+        let rows = rows(&store);
+        for floor in rows.head.floor..=rows.head.now {
+            assert_eq!(rows.kept_by_branch(floor), rows.kept_by_every_moment(floor));
+        }
+    }
+}

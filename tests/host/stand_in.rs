@@ -1,0 +1,98 @@
+//! The reference under the library's names, to try the hosts themselves on: over the reference as it
+//! is they must find no difference, and over the reference with a fault put into it they must find one.
+
+use reference::Areas;
+
+type Part = (*mut u8, usize);
+
+unsafe fn copied(part: Part) -> Vec<u8> {
+    if part.1 == 0 {
+        Vec::new()
+    } else {
+        std::slice::from_raw_parts(part.0, part.1).to_vec()
+    }
+}
+
+unsafe fn give_back(part: Part, bytes: &[u8]) {
+    if part.1 != 0 {
+        std::slice::from_raw_parts_mut(part.0, part.1).copy_from_slice(bytes);
+    }
+}
+
+unsafe fn taken(parts: &[Part; 5]) -> Areas {
+    Areas {
+        head: copied(parts[0]),
+        branches: copied(parts[1]),
+        records: copied(parts[2]),
+        places: copied(parts[3]),
+        slab: copied(parts[4]),
+    }
+}
+
+unsafe fn returned(parts: &[Part; 5], areas: &Areas) {
+    give_back(parts[0], &areas.head);
+    give_back(parts[1], &areas.branches);
+    give_back(parts[2], &areas.records);
+    give_back(parts[3], &areas.places);
+    give_back(parts[4], &areas.slab);
+}
+
+/// # Safety
+/// Each pointer is to as many bytes as the length after it says.
+#[no_mangle]
+pub unsafe extern "C" fn kizmoolet_fresh(
+    size: u32,
+    head: *mut u8,
+    head_len: usize,
+    branches: *mut u8,
+    branches_len: usize,
+    records: *mut u8,
+    records_len: usize,
+    places: *mut u8,
+    places_len: usize,
+    slab: *mut u8,
+    slab_len: usize,
+) -> u32 {
+    let parts =
+        [(head, head_len), (branches, branches_len), (records, records_len), (places, places_len), (slab, slab_len)];
+    let mut areas = taken(&parts);
+    let result = reference::fresh(size, &mut areas);
+    returned(&parts, &areas);
+    result
+}
+
+/// # Safety
+/// Each pointer is to as many bytes as the length after it says; the three counts may be written.
+#[no_mangle]
+pub unsafe extern "C" fn kizmoolet_batch(
+    head: *mut u8,
+    head_len: usize,
+    branches: *mut u8,
+    branches_len: usize,
+    records: *mut u8,
+    records_len: usize,
+    places: *mut u8,
+    places_len: usize,
+    slab: *mut u8,
+    slab_len: usize,
+    batch: *const u8,
+    batch_len: usize,
+    answers: *mut u8,
+    answers_len: usize,
+    answered: *mut u64,
+    request_bytes: *mut u64,
+    answer_bytes: *mut u64,
+) -> u32 {
+    let parts =
+        [(head, head_len), (branches, branches_len), (records, records_len), (places, places_len), (slab, slab_len)];
+    let mut areas = taken(&parts);
+    let requests = copied((batch.cast_mut(), batch_len));
+    let mut area = copied((answers, answers_len));
+    let report = reference::batch(&mut areas, &requests, &mut area);
+    returned(&parts, &areas);
+    give_back((answers, answers_len), &area);
+    *answered = report.answered;
+    *request_bytes = report.request_bytes;
+    *answer_bytes = report.answer_bytes;
+    report.stop
+}
