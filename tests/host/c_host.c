@@ -303,12 +303,12 @@ int main(int argc, char **argv)
             fail("no memory");
         areas[i].between = whole + page;
     }
-    /* The library takes somewhat more than a megabyte of the stack. */
+    /* The library takes about 1.3 MB of the stack; the host itself takes little. */
     pthread_attr_t attributes;
     pthread_t thread;
     bool good = false;
     if (pthread_attr_init(&attributes) != 0
-        || pthread_attr_setstacksize(&attributes, (size_t)4 << 20) != 0
+        || pthread_attr_setstacksize(&attributes, (size_t)3 << 19) != 0
         || pthread_create(&thread, &attributes, work, &good) != 0
         || pthread_join(thread, NULL) != 0)
         fail("no thread");

@@ -1,5 +1,7 @@
 //! The reference under the library's names, to try the hosts themselves on: over the reference as it
 //! is they must find no difference, and over the reference with a fault put into it they must find one.
+//! It is built with metadata of its own: the host in Rust has the reference inside, too, and a linker
+//! would take one of the two for both sides if their names were the same.
 
 use reference::Areas;
 

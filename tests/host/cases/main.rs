@@ -17,17 +17,24 @@ struct Written {
 }
 
 impl Written {
+    fn bytes(&mut self, bytes: &[u8]) {
+        if self.out.write_all(bytes).is_err() {
+            eprintln!("the host stopped reading the cases");
+            std::process::exit(2);
+        }
+    }
+
     fn tag(&mut self, tag: u8) {
-        self.out.write_all(&[tag]).expect("the host reads on");
+        self.bytes(&[tag]);
     }
 
     fn number(&mut self, number: u64) {
-        self.out.write_all(&number.to_le_bytes()).expect("the host reads on");
+        self.bytes(&number.to_le_bytes());
     }
 
     fn area(&mut self, area: &[u8]) {
         self.number(area.len() as u64);
-        self.out.write_all(area).expect("the host reads on");
+        self.bytes(area);
     }
 
     fn areas(&mut self, areas: &Areas) {
@@ -85,5 +92,7 @@ fn main() {
     written.tag(b'Z');
     let differences = written.pile_differences;
     written.number(differences);
-    written.out.flush().expect("the host reads on");
+    if written.out.flush().is_err() {
+        std::process::exit(2);
+    }
 }
