@@ -5,16 +5,16 @@ use mathlib.Core.List.{List, [], _∷_, _++_}
 use mathlib.Core.Bool.{Bool, true, false, _&&_, not}
 use lib.Dec.{eqb}
 use lib.ListN.{length, replicate}
 use Rattle.model.specs.declared.Branch.{Branch}
 use Rattle.model.specs.declared.Record.{Record}
 use Rattle.model.specs.Store.{Store, open-end, keep, any, branches, newest, records, pageAt, withPage, zero-record}
-use Rattle.model.specs.Lookup.{holds, ancestry, within, latest, firstFound, lookup, anyUpTo, isGiven, inAncestry, isAncestor}
+use Rattle.model.specs.Lookup.{isReadable, holds, ancestry, within, latest, firstFound, lookup, anyUpTo, isGiven, inAncestry, isAncestor}
 use Rattle.model.specs.Soundness.{sizesAllowed, inRange, chained, branchesSound, precedes, ascending, placed, used, recordsSound, tableCheck}
 use Rattle.model.specs.Wire.{write, revert, readAt, number, bytes, packed, byOperation, parse, requestBytes, answerBytes}
 use Rattle.model.specs.Step.{firstFree, before, inserted, doWrite, doMark, branched, doRevert, doRead, reclaimed, doReclaim, step}
 use Rattle.model.specs.Fresh.{fresh}
 use Rattle.model.specs.Batch.{Run, run, batch}
-use Rattle.model.specs.Session.{sameList, letter, writes, marks, reverts, reads, reclaims, says, gives, refuses}
+use Rattle.worked_examples.specs.Session.{sameList, letter, writes, marks, reverts, reads, reclaims, says, gives, refuses}
 
 -- a batch on a store, with this much space: its stop number, the number of requests answered, and the answers
 pub record Case : Type 0 where
@@ -56,6 +56,10 @@ plain now floor = storeWith (row 0 open-end 0 ∷ []) (zero-record ∷ []) (0 �
 abbrev pub full : Store
 full = storeWith (row 0 open-end 0 ∷ []) (rec 5 4 0 ∷ []) (1 ∷ []) 1 4 0
 
+-- three free record rows and places
+abbrev pub three : Store
+three = storeWith (row 0 open-end 0 ∷ []) (zero-record ∷ zero-record ∷ zero-record ∷ []) (0 ∷ 0 ∷ 0 ∷ []) 0 0 0
+
 -- check 1, 2, 3, and their order
 abbrev pub checks : List Case
 checks =
@@ -71,7 +75,7 @@ checks =
     ∷ record { store = storeWith (row 0 3 0 ∷ row 4 open-end 4 ∷ []) (rec 5 0 0 ∷ []) (0 ∷ []) 1 4 0; input = marks; space = 99; stop = 2; answered = 0; out = [] }
     ∷ []
 
--- 4 to 10, and their order: write 4, 5, 6; read 4, 8, 9; revert 8, 9, 10, 7; reclaim 8, 9; mark 10
+-- 4 to 10, and their order: write 4, 5, 6; read 4, 8, 9; revert 8, 9, 10, 7; reclaim 8, 9; mark 10; last, a reclaim that frees two records and keeps one
 abbrev pub requests : List Case
 requests =
     record { store = plain 4 3; input = requestBytes (readAt 6 2); space = 99; stop = 0; answered = 1; out = refuses 4 }
@@ -92,6 +96,14 @@ requests =
     ∷ record { store = plain 4 3; input = reclaims 2; space = 99; stop = 0; answered = 1; out = refuses 8 }
     ∷ record { store = plain 4 3; input = reclaims 5; space = 99; stop = 0; answered = 1; out = refuses 9 }
     ∷ record { store = plain 4 3; input = reclaims 3 ++ reclaims 4; space = 99; stop = 0; answered = 2; out = says 0 ++ says 0 }
+    ∷ record {
+      store = three;
+      input = writes 1 ++ (marks ++ (writes 2 ++ (marks ++ (writes 3 ++ (reclaims 2 ++ (reads 2 ++ reads 1))))));
+      space = 999;
+      stop = 0;
+      answered = 8;
+      out = says 0 ++ (says 0 ++ (says 1 ++ (says 1 ++ (says 2 ++ (says 2 ++ (gives 2 3 ++ refuses 8))))));
+    }
     ∷ []
 
 -- 11 to 14 and their order, what was answered before them, and a space that is just filled
@@ -155,5 +167,5 @@ unfolding holds-sizes sizesAllowed
 fresh-sizes = refl
 
 pub refusals : holds-all (checks ++ (requests ++ stops)) ≡ true
-unfolding holds-all keep any branches newest records pageAt withPage holds ancestry within latest firstFound lookup anyUpTo isGiven inAncestry isAncestor sizesAllowed inRange chained branchesSound precedes ascending placed used recordsSound tableCheck number bytes packed byOperation parse requestBytes answerBytes firstFree before inserted doWrite doMark branched doRevert doRead reclaimed doReclaim step fresh run batch
+unfolding holds-all keep any branches newest records pageAt withPage holds ancestry within latest firstFound lookup anyUpTo isGiven inAncestry isAncestor sizesAllowed inRange chained branchesSound precedes ascending placed used recordsSound tableCheck number bytes packed byOperation parse requestBytes answerBytes firstFree before inserted doWrite doMark branched doRevert doRead reclaimed doReclaim step fresh run batch isReadable
 refusals = refl

@@ -5,13 +5,13 @@ use mathlib.Core.List.{List, [], _∷_, map}
 use mathlib.Core.Bool.{Bool, true, false, _&&_}
 use lib.Dec.{eqb}
 use lib.ListN.{replicate}
 use Rattle.model.specs.Store.{Store, keep, any, branches, newest, records, pageAt, withPage}
-use Rattle.model.specs.Lookup.{holds, ancestry, within, latest, firstFound, lookup, anyUpTo, isGiven, inAncestry, isAncestor}
+use Rattle.model.specs.Lookup.{isReadable, holds, ancestry, within, latest, firstFound, lookup, anyUpTo, isGiven, inAncestry, isAncestor}
 use Rattle.model.specs.Soundness.{sizesAllowed, inRange, chained, branchesSound, precedes, ascending, placed, used, recordsSound, tableCheck}
 use Rattle.model.specs.Wire.{number, bytes, packed, byOperation, parse, answerBytes}
 use Rattle.model.specs.Step.{firstFree, before, inserted, doWrite, doMark, branched, doRevert, doRead, reclaimed, doReclaim, step}
-use Rattle.model.specs.Fresh.{fresh}
+use Rattle.model.specs.Fresh.{fresh, programStore}
 use Rattle.model.specs.Batch.{Run, run, batch}
 
 abbrev pub sameList : List ℕ → List ℕ → Bool
 sameList [] [] = true
@@ -102,14 +102,10 @@ p12 =
     ∷ record { ask = reverts 0; said = says 1; starts = 0 ∷ 2 ∷ []; count = 0 }
     ∷ []
 
--- the store of the batch program: A 64, 16 branches, 128 records, 128 places
-abbrev pub cabinet : Store
-cabinet = fresh 64 16 128 128 (replicate 32768 0)
-
 pub all-agree : Store → List (List Row) → Bool
 all-agree s [] = true
 all-agree s (t ∷ ts) = agrees s t && all-agree s ts
 
-pub session : all-agree cabinet (p1-to-10 ∷ p11 ∷ p12 ∷ []) ≡ true
-unfolding agrees all-agree keep any branches newest records pageAt withPage holds ancestry within latest firstFound lookup anyUpTo isGiven inAncestry isAncestor sizesAllowed inRange chained branchesSound precedes ascending placed used recordsSound tableCheck number bytes packed byOperation parse answerBytes firstFree before inserted doWrite doMark branched doRevert doRead reclaimed doReclaim step fresh run batch
+pub session : all-agree (programStore (replicate 32768 0)) (p1-to-10 ∷ p11 ∷ p12 ∷ []) ≡ true
+unfolding agrees all-agree keep any branches newest records pageAt withPage holds ancestry within latest firstFound lookup anyUpTo isGiven inAncestry isAncestor sizesAllowed inRange chained branchesSound precedes ascending placed used recordsSound tableCheck number bytes packed byOperation parse answerBytes firstFree before inserted doWrite doMark branched doRevert doRead reclaimed doReclaim step fresh run batch isReadable
 session = refl
