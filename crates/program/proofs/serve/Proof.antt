@@ -1,10 +1,12 @@
--- `cabinet::session` meets its contract: its tables have the lengths that `serve_fresh` asks.
+-- `program::serve` meets its contract: its tables have the lengths that `serve_fresh` asks.
 use borrow.Author.Needs.{needs}
 use native.Mathlib.Omega.{arith}
-use Rattle.cabinet.specs.Session.{zeros, atStart}
-use Rattle.cabinet.proofs.Serving.{stop-byte, replies}
-use Rattle.cabinet.proofs.session.Statement.{statement}
-use Rattle.cabinet.proofs.session.Tie as tie
+use Prim.Native.Nat.{_*_}
+use Rattle.model.specs.Fresh.{programStore}
+use Rattle.program.specs.Session.{atStart}
+use Rattle.program.proofs.Serving.{stop-byte, sends}
+use Rattle.program.proofs.serve.Statement.{statement}
+use Rattle.program.proofs.serve.Tie as tie
 
 branch-rows-requires : tie.Need-branch-rows-requires
 branch-rows-requires c κs = search needs
@@ -32,21 +34,27 @@ serve-fresh-requires c κs = search needs
 
 cast-t21 : tie.Need-cast-t21
 cast-t21 c =
-    let f = c .before .before .before .before .before .before .before in
-    let s = f .before .before .before .before .before .before .before .before .before .before .before in
-    omega (arith, stop-byte (atStart (f .before .before .before .before .before .before .page-slab .result)) (s .args .input .now) (f .serve-fresh .ensures))
+    let d = c .before .before .before .before in
+    let f = d .before .before .before in
+    let a = f .before .before .before in
+    let slab = a .before .before .before in
+    let s = slab .before .before .before .before .before in
+    omega (arith, stop-byte (programStore (slab .page-slab .result)) (s .args .input .now) (f .serve-fresh .ensures))
 
 same-length : tie.Need-same-length
 same-length c = search needs
 
 returns : tie.Need-returns
 returns c =
-    let f = c .before .before .before .before .before .before .before in
-    let s = f .before .before .before .before .before .before .before .before .before .before .before in
-    replies (atStart (zeros 32768)) (s .args .input .now) (rw (f .before .before .before .before .before .before .page-slab .ensures) at (f .serve-fresh .ensures))
+    let d = c .before .before .before .before in
+    let f = d .before .before .before in
+    let a = f .before .before .before in
+    let slab = a .before .before .before in
+    let s = slab .before .before .before .before .before in
+    sends atStart (s .args .input .now) (rw (slab .page-slab .ensures) at (f .serve-fresh .ensures))
 
-pub session-spec : {M : Type 1} → statement M
-session-spec =
+pub serve-spec : {M : Type 1} → statement M
+serve-spec =
     tie.close
     (tie.spec
     branch-rows-requires
