@@ -1,6 +1,6 @@
 /* What a reclaim keeps. Branches: newest to oldest, one that ends at or above the floor, and the parent of a kept
-   one. Records, an address at a time: those from the floor on, what the floor's own lookup gives, and what is found
-   at the start of each branch that begins above the floor. */
+   one. Records by the slow method, an address at a time: those from the floor on, what the floor's own lookup gives, and
+   what is found at the start of each branch that begins above the floor. fast_marks.c has the fast method. */
 #include "store.h"
 
 size_t row_holding(const struct branch *rows, size_t n, uint32_t moment)
@@ -43,7 +43,7 @@ static uint32_t latest(const uint32_t *moments, size_t count, uint32_t from, uin
     return lo > 0 && moments[lo - 1] >= from ? (uint32_t)lo : other;
 }
 
-void mark_group(struct marking *m, const uint32_t *moments, size_t count, uint8_t *kept)
+static void mark_group(struct marking *m, const uint32_t *moments, size_t count, uint8_t *kept)
 {
     for (size_t i = 0; i < count; i++)
         kept[i] = moments[i] >= m->floor;
@@ -64,4 +64,19 @@ void mark_group(struct marking *m, const uint32_t *moments, size_t count, uint8_
             if (found)
                 kept[found - 1] = 1;
         }
+}
+
+int marks_by_groups;
+
+void mark_records(struct marking *m, const uint32_t *addresses, const uint32_t *moments, size_t count, uint8_t *kept)
+{
+    if (!marks_by_groups) {
+        mark_spans(m, addresses, moments, count, kept);
+        return;
+    }
+    for (size_t lo = 0, hi; lo < count; lo = hi) {
+        for (hi = lo + 1; hi < count && addresses[hi] == addresses[lo]; hi++)
+            ;
+        mark_group(m, moments + lo, hi - lo, kept + lo);
+    }
 }

@@ -204,11 +204,11 @@ static void free_place(uint8_t *place)
     put(extents, place, 4, one, 4);
 }
 
-/* Document 004, 3.2.3: a scan of the lpmap, an address at a time; the branch table is held in an array meanwhile. */
+/* Document 004, 3.2.3: a scan of the lpmap; the branch table is held in an array meanwhile, and rows are deleted after the scan. */
 static uint32_t reclaim(uint32_t floor)
 {
     static struct marking m;
-    static uint32_t moments[65536];
+    static uint32_t addresses[65536], moments[65536];
     static uint8_t places[65536][4], kept[65536];
     DBC *c;
     uint8_t key[8], data[12];
@@ -225,33 +225,29 @@ static uint32_t reclaim(uint32_t floor)
     mark_branches(&m);
 
     uint32_t freed = 0;
+    size_t count = 0;
     ok(lpmap->cursor(lpmap, NULL, &c, 0));
     k = dbt(key, 8);
     d = dbt(data, 4);
-    code = c->get(c, &k, &d, DB_FIRST);
-    while (code == 0) {
-        uint32_t address = get32(key);
-        size_t count = 0;
-        do {
-            moments[count] = get32(key + 4);
-            memcpy(places[count++], data, 4);
-            code = c->get(c, &k, &d, DB_NEXT);
-        } while (code == 0 && get32(key) == address);
-        mark_group(&m, moments, count, kept);
-        for (size_t i = 0; i < count; i++)
-            if (!kept[i]) {
-                uint8_t old[8];
-                put32(old, address);
-                put32(old + 4, moments[i]);
-                DBT o = dbt(old, 8);
-                ok(lpmap->del(lpmap, NULL, &o, 0));
-                free_place(places[i]);
-                freed++;
-            }
+    while ((code = c->get(c, &k, &d, DB_NEXT)) == 0) {
+        addresses[count] = get32(key);
+        moments[count] = get32(key + 4);
+        memcpy(places[count++], data, 4);
     }
     if (code != DB_NOTFOUND)
         ok(code);
     ok(c->close(c));
+    mark_records(&m, addresses, moments, count, kept);
+    for (size_t i = 0; i < count; i++)
+        if (!kept[i]) {
+            uint8_t old[8];
+            put32(old, addresses[i]);
+            put32(old + 4, moments[i]);
+            DBT o = dbt(old, 8);
+            ok(lpmap->del(lpmap, NULL, &o, 0));
+            free_place(places[i]);
+            freed++;
+        }
     for (size_t i = 0; i < m.n; i++)
         if (!m.kept[i]) {
             put32(key, m.rows[i].start);

@@ -167,7 +167,7 @@ static unsigned revert(struct areas *s, uint32_t moment)
 static unsigned reclaim(struct areas *s, uint32_t floor, uint32_t *freed)
 {
     static struct marking m;
-    static uint32_t moments[65536];
+    static uint32_t addresses[65536], moments[65536];
     static uint8_t kept[65536];
     if (floor < head_floor(s))
         return 8;
@@ -179,14 +179,11 @@ static unsigned reclaim(struct areas *s, uint32_t floor, uint32_t *freed)
     for (size_t i = 0; i < m.n; i++)
         m.rows[i] = branch_at(s, i);
     mark_branches(&m);
-    for (size_t i = 0; i < n; i++)
+    for (size_t i = 0; i < n; i++) {
+        addresses[i] = get32(s->records + 12 * i);
         moments[i] = get32(s->records + 12 * i + 4);
-    for (size_t lo = 0, hi; lo < n; lo = hi) {
-        uint32_t address = get32(s->records + 12 * lo);
-        for (hi = lo + 1; hi < n && get32(s->records + 12 * hi) == address; hi++)
-            ;
-        mark_group(&m, moments + lo, hi - lo, kept + lo);
     }
+    mark_records(&m, addresses, moments, n, kept);
     for (size_t i = 0; i < n; i++) {
         struct record r = record_at(s, i);
         if (kept[i])

@@ -108,7 +108,7 @@ static const uint8_t *lookup(uint32_t address, uint32_t moment)
     }
 }
 
-/* A scan in order, an address at a time; the branch table is held in an array meanwhile. Rows are deleted after it. */
+/* A scan in order; the branch table is held in an array meanwhile. Rows are deleted after it. */
 static uint32_t reclaim(uint32_t floor)
 {
     static struct marking m;
@@ -126,11 +126,7 @@ static uint32_t reclaim(uint32_t floor)
         moments[n++] = column(all_records, 1);
     }
     ok(sqlite3_reset(all_records));
-    for (size_t lo = 0, hi; lo < n; lo = hi) {
-        for (hi = lo + 1; hi < n && addresses[hi] == addresses[lo]; hi++)
-            ;
-        mark_group(&m, moments + lo, hi - lo, kept + lo);
-    }
+    mark_records(&m, addresses, moments, n, kept);
     uint32_t freed = 0;
     for (size_t i = 0; i < n; i++)
         if (!kept[i]) {

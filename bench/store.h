@@ -102,7 +102,11 @@ struct marking {
 };
 size_t row_holding(const struct branch *rows, size_t n, uint32_t moment);
 void mark_branches(struct marking *m); /* from n, floor and rows: parent and kept */
-void mark_group(struct marking *m, const uint32_t *moments, size_t count, uint8_t *kept); /* the records of one address */
+/* Which of the records, in order of address and moment, are kept: by spans (fast_marks.c), or where `marks_by_groups` is set
+   an address at a time (marks.c). */
+extern int marks_by_groups;
+void mark_records(struct marking *m, const uint32_t *addresses, const uint32_t *moments, size_t count, uint8_t *kept);
+void mark_spans(const struct marking *m, const uint32_t *addresses, const uint32_t *moments, size_t count, uint8_t *kept);
 
 _Noreturn void fail(const char *what);
 

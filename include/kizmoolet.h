@@ -13,15 +13,31 @@
  *
  * 1. Each pointer and the length behind it name an area of that many bytes that may be read; areas passed without const, and
  *    the three counts, may also be written. A null pointer only with length 0, and never for a count.
- * 2. No two areas overlap, and none overlaps a count. Two read-only areas may.
+ * 2. No two areas overlap, no area overlaps a count, and no two counts stand at one address.
  * 3. Nobody else writes to the areas during a call, or reads those that it may change. Calls on different stores may run at
  *    the same time.
- * 4. About 1.3 MB of stack are free: the tables' numbers stand there during the call (1.1 MB). The usual 8 MB of a main
+ * 4. KIZMOOLET_STACK_BYTES of stack are free: the tables' numbers stand there during the call. The usual 8 MB of a main
  *    thread are enough; a thread with a small stack is not.
  * 5. Head, tables and slab belong to the caller, who keeps them between calls as the last call left them, and passes the same
  *    five areas, with the same lengths, to the next. A copy of the five areas is a copy of the store.
  *
- * No other duty: wrong lengths and any contents are refused and change nothing.
+ * No other duty: wrong lengths and unsound contents are refused (1, 2, 3). A call that is refused so writes to no area; the three
+ * counts of kizmoolet_batch are written, with zeros.
+ *
+ *
+ * WHAT IT NEEDS
+ *
+ * An x86-64 processor. From outside the archive needs one symbol, memset, which any C library has.
+ *
+ *
+ * WHAT A CALL COSTS
+ *
+ * Each call of kizmoolet_batch decodes head and tables, all rows lent, and checks the rows counted and all place rows, before it
+ * looks at the first request; unless it is refused, it encodes all rows lent again after the last. An empty batch costs this
+ * too, and a host that sends its requests together pays it once. Of the slab only those pages are touched that a request writes
+ * or finds. Measured for an empty batch, over all runs on one machine (docs/BENCHMARKS.md, "A call by itself"): on the largest
+ * tables with all rows in use 6.3 to 8.4 ms, 53 to 113 times as long as a memcpy of the tables; on a fresh store of that size
+ * 0.23 to 0.41 ms, 3.6 to 6.1 times; on small tables 25 to 33 us, about what it takes to clear the 1.1 MB of stack.
  *
  *
  * THE FIVE AREAS OF A STORE
@@ -43,7 +59,7 @@
  * REQUESTS, one behind the other in a batch
  *
  * Packed fields, most significant first: operation 3 bits, address 16, moment 32, spare 5; 7 bytes. Fields that an operation
- * does not use are zero.
+ * does not use are zero. kizmoolet_requests.h has functions that pack requests and unpack answers.
  *
  *   1 write    address; the page's 256 bytes follow    puts the page at now                    answer: now
  *   2 mark                                             seals now, which grows by 1             answer: the sealed moment
@@ -65,26 +81,6 @@
  * The result of a call is 0 or the number of what refused or stopped it. 4 to 10 are never a result: they stand in a
  * request's answer, and the batch goes on. A refused request alters nothing.
  *
- *   result of kizmoolet_fresh (1) and kizmoolet_batch (1, 2, 3); nothing is written but the counts, which are zero
- *    1  head, counts or lengths outside their ranges, a table no whole number of rows, or floor above now
- *    2  branch rows not sound
- *    3  records or places not sound
- *
- *   refusal in an answer
- *    4  write, read: address at or above A
- *    5  write: it needs a row, and the record table is full
- *    6  write: it needs a place, and none is free
- *    7  revert: the branch table is full
- *    8  read, revert, reclaim: moment below the floor
- *    9  read, reclaim: moment above now; revert: moment now or above
- *   10  mark, revert: now is 4,294,967,295
- *
- *   result of kizmoolet_batch at a request that is not carried out; the requests before it stand
- *   11  request or page cut short
- *   12  operation 0, 6 or 7
- *   13  spare bits, or a field that the operation does not use, are not zero
- *   14  the answer that results, a refusal's 5 bytes too, is longer than what is left of the answer area
- *
  * Where several apply: 1, 2, 3 in this order; of a request 11 (fewer than 7 bytes), 12, 13, 11 (page), then its own refusals
  * (write 4, 5, 6; read 4, 8, 9; revert 8, 9, 10, 7; reclaim 8, 9; mark 10), then 14.
  */
@@ -94,16 +90,86 @@
 #include <stddef.h>
 #include <stdint.h>
 
+/* The version of this header and of the archive beside it; CHANGELOG.md says what changed. */
+#define KIZMOOLET_VERSION "0.1.0"
+#define KIZMOOLET_VERSION_MAJOR 0
+#define KIZMOOLET_VERSION_MINOR 1
+#define KIZMOOLET_VERSION_PATCH 0
+
+#define KIZMOOLET_OK 0u
+
+/* Result of kizmoolet_fresh (1) and kizmoolet_batch (1, 2, 3): nothing is written but the counts, which are zero. */
+#define KIZMOOLET_OUT_OF_RANGE 1u       /* head, counts or lengths outside their ranges, a table no whole number of rows, or
+                                           floor above now */
+#define KIZMOOLET_BRANCHES_UNSOUND 2u   /* branch rows not sound */
+#define KIZMOOLET_RECORDS_UNSOUND 3u    /* records or places not sound */
+
+/* Refusal in an answer; the batch goes on. */
+#define KIZMOOLET_ADDRESS_TOO_HIGH 4u   /* write, read: address at or above A */
+#define KIZMOOLET_RECORDS_FULL 5u       /* write: it needs a row, and the record table is full */
+#define KIZMOOLET_PLACES_FULL 6u        /* write: it needs a place, and none is free */
+#define KIZMOOLET_BRANCHES_FULL 7u      /* revert: the branch table is full */
+#define KIZMOOLET_MOMENT_TOO_EARLY 8u   /* read, revert, reclaim: moment below the floor */
+#define KIZMOOLET_MOMENT_TOO_LATE 9u    /* read, reclaim: moment above now; revert: moment now or above */
+#define KIZMOOLET_MOMENTS_USED_UP 10u   /* mark, revert: now is 4,294,967,295 */
+
+/* Result of kizmoolet_batch at a request that is not carried out; the requests before it stand. */
+#define KIZMOOLET_CUT_SHORT 11u         /* request or page cut short */
+#define KIZMOOLET_NO_OPERATION 12u      /* operation 0, 6 or 7 */
+#define KIZMOOLET_SPARE_BITS 13u        /* spare bits, or a field that the operation does not use, are not zero */
+#define KIZMOOLET_ANSWERS_FULL 14u      /* the answer that results, a refusal's 5 bytes too, is longer than what is left of the
+                                           answer area */
+
+/* The operations of requests. */
+#define KIZMOOLET_WRITE 1u
+#define KIZMOOLET_MARK 2u
+#define KIZMOOLET_REVERT 3u
+#define KIZMOOLET_READ 4u
+#define KIZMOOLET_RECLAIM 5u
+
+/* Bytes of a page, of the head, of a row of each table. The slab has KIZMOOLET_PAGE_BYTES for each place row. */
+#define KIZMOOLET_PAGE_BYTES 256u
+#define KIZMOOLET_HEAD_BYTES 20u
+#define KIZMOOLET_BRANCH_BYTES 12u
+#define KIZMOOLET_RECORD_BYTES 12u
+#define KIZMOOLET_PLACE_BYTES 4u
+
+/* The most pages of a volume and rows of each table; of each there is at least 1. */
+#define KIZMOOLET_MOST_PAGES 65536u
+#define KIZMOOLET_MOST_BRANCHES 4096u
+#define KIZMOOLET_MOST_RECORDS 65536u
+#define KIZMOOLET_MOST_PLACES 65536u
+
+/* The last moment there is; also the end of the branch that is open. */
+#define KIZMOOLET_LAST_MOMENT 4294967295u
+
+/* Where the numbers of the head stand. */
+#define KIZMOOLET_HEAD_PAGES_AT 0u
+#define KIZMOOLET_HEAD_BRANCHES_AT 4u
+#define KIZMOOLET_HEAD_RECORDS_AT 8u
+#define KIZMOOLET_HEAD_NOW_AT 12u
+#define KIZMOOLET_HEAD_FLOOR_AT 16u
+
+/* Bytes of a request, of a write with its page, of an answer, of an answer with a page. */
+#define KIZMOOLET_REQUEST_BYTES 7u
+#define KIZMOOLET_WRITE_BYTES 263u
+#define KIZMOOLET_ANSWER_BYTES 5u
+#define KIZMOOLET_PAGE_ANSWER_BYTES 261u
+
+/* Enough stack for a call of either function. Measured: kizmoolet_fresh 1.10 MB, kizmoolet_batch 1.38 MB, whatever the sizes of
+   the tables and the batch. */
+#define KIZMOOLET_STACK_BYTES 1572864u
+
 #ifdef __cplusplus
 extern "C" {
 #endif
 
 /*
  * Makes a fresh store of `size` pages in the five areas, whatever they hold: now 0, floor 0, no page. The slab is not written.
- * Result: 0; or 1, and nothing is changed, where the size or a length is out of range.
+ * Result: 0; or 1, and nothing is written, where the size or a length is out of range.
  */
 uint32_t kizmoolet_fresh(uint32_t size, uint8_t *head, size_t head_len, uint8_t *branches, size_t branches_len,
-    uint8_t *records, size_t records_len, uint8_t *places, size_t places_len, uint8_t *slab, size_t slab_len);
+    uint8_t *records, size_t records_len, uint8_t *places, size_t places_len, const uint8_t *slab, size_t slab_len);
 
 /*
  * Checks the tables, then carries out the requests of a batch in order, each on the store that the last one left.

@@ -1,8 +1,15 @@
 /* A host for the page history, as a cabinet would have it: the store is kept in one image file.
 
      host new IMAGE SIZE BRANCHES RECORDS PLACES   make the image of a fresh store
-     host run IMAGE [ANSWER_BYTES]                 standard input is one batch, the answers go to standard output;
-                                                   the stop number and the three counts go to standard error
+     host run [OPTIONS] IMAGE [ANSWER_BYTES]       standard input is one batch; the answers and then one byte, the stop
+                                                   number, go to standard output; the stop number and the counts go to
+                                                   standard error
+     host grow IMAGE BRANCHES RECORDS PLACES       the same store over larger tables
+
+   Options of run:
+     --stop-at-refusal   the requests after the first refused one are not carried out, and not answered
+     --all-or-nothing    where a request is refused or the batch stops, the image stays as it was
+     --copy NAME         before the image is replaced, it is copied to NAME, in its own folder
 
    The image file: 24 bytes of header (the letters KZIMAGE1; branch rows, record rows and place rows, four bytes
    each; CRC-32 of all other bytes of the file, four bytes), then head, branch table, record table, place table and
@@ -12,12 +19,21 @@
    disk, then takes over the name by rename, and the folder is forced to the disk: a cut of power at any moment
    leaves the old or the new image, whole. Answers are written only after that. Otherwise a caller could hold an
    answer (say, the moment to name to undo a revert) of a store that came back from the cut without that request.
-   After a cut the other case remains: the image is the new one and the answers were not seen. `tools/kz tree IMAGE`
+   After a cut the other case remains: the image is the new one and the answers were not seen. `kz IMAGE status`
    shows now, which tells the two apart where the batch marks or reverts.
 
-   Exit status: 0 the batch was answered to its end, or the image was made; 3 it stopped with another number;
-   1 something failed, and the image is as it was; 4 something failed after the image got its new bytes; 2 usage. */
+   The other name is .IMAGE.kizmoolet-PROCESS. No image has such a name, since this program refuses it; a file of this
+   name that is there already is not overwritten. One that a run left which was cut off is removed by the next run
+   that changes the image: a plain file of the same owner, which no living host has locked.
+
+   Mode and owner stay. An image that may not be written is not replaced; it can be read. The image itself is locked,
+   so that hosts wait for each other at one image, and not at others of the folder.
+
+   Exit status: 0 all requests were accepted, or the image was made; 5 all were answered, some refused; 3 the batch
+   stopped with a number other than 0; 6 --all-or-nothing, something was refused or stopped, and the image is as it
+   was; 1 something failed, and the image is as it was; 4 something failed after the image got its new bytes; 2 usage. */
 #define _GNU_SOURCE
+#include <dirent.h>
 #include <errno.h>
 #include <fcntl.h>
 #include <limits.h>
@@ -39,15 +55,23 @@ enum {
     CHECKSUM_AT = 20,
     HEAD = 20,
     PAGE = 256,
-    BATCH_MAX = 1 << 24,       /* bytes of one batch */
-    LARGEST_ANSWER = 5 + PAGE, /* the answer to a read that finds a page */
-    SMALLEST_REQUEST = 7,
-    STACK_NEEDED = 2 << 20 /* the library needs about 1.3 MB of it */
+    WRITE = 1, /* operations */
+    READ = 4,
+    RECLAIM = 5,
+    REQUEST = 7, /* bytes of a request, without a write's page */
+    ANSWER = 5,  /* bytes of an answer, without a read's page */
+    BRANCHES_MOST = 4096,
+    ROWS_MOST = 65536,
+    BATCH_MOST = 1 << 26,  /* bytes of one batch: more than three whole volumes of writes */
+    STACK_NEEDED = 2 << 20 /* the library takes 1.38 MB of it */
 };
 
 static const char magic[8] = {'K', 'Z', 'I', 'M', 'A', 'G', 'E', '1'};
 
-/* A file that may be replaced: its folder, held open and locked, and its name in that folder. */
+static const char aside_word[] = ".kizmoolet-";
+
+/* A file that may be replaced: its folder, held open, its name in that folder, and the name that a new image has there
+   until it takes over. */
 struct place {
     int folder;
     char name[NAME_MAX + 1];
@@ -62,8 +86,14 @@ struct image {
     size_t branches_len, records_len, places_len, slab_len;
 };
 
+/* A copy that was made for a change: removed again where the change fails. */
+static int copy_folder = -1;
+static const char *copy_name;
+
 static void fail(int status, const char *format, ...) {
     va_list given;
+    if (status == 1 && copy_folder >= 0)
+        unlinkat(copy_folder, copy_name, 0);
     va_start(given, format);
     fputs("host: ", stderr);
     vfprintf(stderr, format, given);
@@ -128,7 +158,17 @@ static void lay_out(struct image *image) {
     image->slab = image->places + image->places_len;
 }
 
-/* Opens and locks the folder: one host at a time works on the images in it. */
+/* The length of the file name that an aside name is for: .NAME.kizmoolet-NUMBER. 0 where it is no aside name. */
+static size_t aside_of(const char *name) {
+    const char *digits = name + strlen(name);
+    while (digits > name && digits[-1] >= '0' && digits[-1] <= '9')
+        digits--;
+    size_t before = (size_t)(digits - name), word = sizeof aside_word - 1;
+    if (*digits == 0 || name[0] != '.' || before < word + 2 || memcmp(digits - word, aside_word, word) != 0)
+        return 0;
+    return before - word - 1;
+}
+
 static struct place find_place(const char *path) {
     char whole[PATH_MAX], *slash;
     struct place place;
@@ -139,16 +179,60 @@ static struct place find_place(const char *path) {
     } else if ((size_t)snprintf(whole, sizeof whole, "%s%s", strchr(path, '/') ? "" : "./", path) >= sizeof whole)
         fail(1, "%s: the name is too long", path);
     slash = strrchr(whole, '/');
-    if (slash[1] == 0 || strlen(slash + 1) > NAME_MAX - 4)
+    if (slash[1] == 0 || strlen(slash + 1) + sizeof aside_word + 11 > NAME_MAX)
         fail(1, "%s: not the name of a file, or too long a name", path);
+    if (aside_of(slash + 1))
+        fail(1, "%s: no image has such a name, which is that of a file being written", path);
     strcpy(place.name, slash + 1);
-    strcpy(place.aside, place.name);
-    strcat(place.aside, ".new");
+    int length = snprintf(place.aside, sizeof place.aside, ".%s%s%ld", place.name, aside_word, (long)getpid());
+    if ((size_t)length >= sizeof place.aside)
+        fail(1, "%s: too long a name", path);
     slash[1] = 0;
     place.folder = open(whole, O_RDONLY | O_DIRECTORY | O_CLOEXEC);
-    if (place.folder < 0 || flock(place.folder, LOCK_EX) != 0)
+    if (place.folder < 0)
         fail(1, "%s: %s", whole, strerror(errno));
     return place;
+}
+
+/* Opens and locks the image. Whoever held the lock may have replaced the file: then the lock is one on a file that
+   has no name any more, and the file that has it now is tried. */
+static int open_locked(const struct place *place, struct stat *found) {
+    for (;;) {
+        struct stat named;
+        int file = openat(place->folder, place->name, O_RDONLY | O_CLOEXEC | O_NONBLOCK);
+        if (file < 0 || fstat(file, found) != 0)
+            fail(1, "%s: %s", place->name, strerror(errno));
+        if (!S_ISREG(found->st_mode))
+            fail(1, "%s is no image", place->name);
+        while (flock(file, LOCK_EX) != 0)
+            if (errno != EINTR)
+                fail(1, "%s cannot be locked: %s", place->name, strerror(errno));
+        if (fstatat(place->folder, place->name, &named, AT_SYMLINK_NOFOLLOW) == 0 && named.st_dev == found->st_dev &&
+            named.st_ino == found->st_ino)
+            return file;
+        close(file);
+    }
+}
+
+/* Removes what earlier hosts left beside this image when they were cut off. */
+static void clear_up(const struct place *place) {
+    int folder = openat(place->folder, ".", O_RDONLY | O_DIRECTORY | O_CLOEXEC);
+    DIR *names = folder < 0 ? NULL : fdopendir(folder);
+    const struct dirent *entry;
+    size_t length = strlen(place->name);
+    while (names && (entry = readdir(names)) != NULL) {
+        struct stat found;
+        if (aside_of(entry->d_name) != length || memcmp(entry->d_name + 1, place->name, length) != 0)
+            continue;
+        int file = openat(place->folder, entry->d_name, O_RDONLY | O_NOFOLLOW | O_CLOEXEC | O_NONBLOCK);
+        if (file >= 0 && fstat(file, &found) == 0 && S_ISREG(found.st_mode) && found.st_uid == geteuid() &&
+            flock(file, LOCK_EX | LOCK_NB) == 0)
+            unlinkat(place->folder, entry->d_name, 0);
+        if (file >= 0)
+            close(file);
+    }
+    if (names)
+        closedir(names);
 }
 
 /* Reads to the end of the file, at most `most` bytes and one more. */
@@ -180,21 +264,14 @@ static int write_all(int file, const uint8_t *bytes, size_t length) {
     return 0;
 }
 
-static struct image load(const struct place *place, mode_t *mode) {
+static struct image load(const struct place *place, int file, const struct stat *found) {
     struct image image;
-    struct stat found;
-    int file = openat(place->folder, place->name, O_RDONLY | O_CLOEXEC);
-    if (file < 0 || fstat(file, &found) != 0)
-        fail(1, "%s: %s", place->name, strerror(errno));
-    *mode = found.st_mode & 07777;
-    if (!S_ISREG(found.st_mode) || found.st_size < HEADER + HEAD ||
-        (uintmax_t)found.st_size > image_length(4096, 65536, 65536))
+    if (found->st_size < HEADER + HEAD || (uintmax_t)found->st_size > image_length(BRANCHES_MOST, ROWS_MOST, ROWS_MOST))
         fail(1, "%s is no image", place->name);
-    image.length = (size_t)found.st_size;
+    image.length = (size_t)found->st_size;
     image.bytes = room(image.length + 1);
     if (read_up_to(file, image.bytes, image.length) != image.length)
         fail(1, "%s changed its length while it was read", place->name);
-    close(file);
     const uint8_t *rows = image.bytes + 8;
     if (memcmp(image.bytes, magic, 8) != 0 ||
         image_length(number_at(rows), number_at(rows + 4), number_at(rows + 8)) != image.length)
@@ -205,24 +282,69 @@ static struct image load(const struct place *place, mode_t *mode) {
     return image;
 }
 
-/* The new image beside the old one, forced to the disk; then the name; then the folder, forced to the disk. */
-static void replace(const struct place *place, struct image *image, mode_t mode) {
-    put_number(image->bytes + CHECKSUM_AT, checksum(image));
-    /* one left by a host that was cut off is of no use */
-    if (unlinkat(place->folder, place->aside, 0) != 0 && errno != ENOENT)
-        fail(1, "%s: %s", place->aside, strerror(errno));
-    int file = openat(place->folder, place->aside, O_WRONLY | O_CREAT | O_EXCL | O_CLOEXEC, 0600);
-    if (file < 0 || write_all(file, image->bytes, image->length) != 0 || fchmod(file, mode) != 0 || fsync(file) != 0 ||
-        close(file) != 0) {
+static void must_be_writable(const struct place *place, const struct stat *found) {
+    int file = -1;
+    errno = EACCES; /* without any permission to write, not even root writes */
+    if (found->st_mode & 0222)
+        file = openat(place->folder, place->name, O_WRONLY | O_CLOEXEC | O_NONBLOCK);
+    if (file < 0)
+        fail(1, "%s may not be written (%s): nothing was carried out", place->name, strerror(errno));
+    close(file);
+}
+
+/* Writes a file that is not there yet, forced to the disk. It stays open and locked: a host that opens it under its
+   new name waits until this one has ended, when the folder too is on the disk. */
+static void write_new(const struct place *place, const char *name, const struct image *image, const struct stat *like) {
+    struct stat made;
+    int file = openat(place->folder, name, O_WRONLY | O_CREAT | O_EXCL | O_CLOEXEC, 0600);
+    if (file < 0)
+        fail(1, "%s: %s", name, strerror(errno));
+    flock(file, LOCK_EX | LOCK_NB);
+    if (write_all(file, image->bytes, image->length) != 0 || fstat(file, &made) != 0 ||
+        ((made.st_uid != like->st_uid || made.st_gid != like->st_gid) && fchown(file, like->st_uid, like->st_gid) != 0) ||
+        fchmod(file, like->st_mode & 07777) != 0 || fsync(file) != 0) {
         int why = errno;
-        unlinkat(place->folder, place->aside, 0);
-        fail(1, "%s: %s", place->aside, strerror(why));
+        unlinkat(place->folder, name, 0);
+        fail(1, "%s could not be written with the owner and mode of %s: %s; nothing was carried out", name, place->name,
+            strerror(why));
     }
-    if (renameat(place->folder, place->aside, place->folder, place->name) != 0)
-        fail(1, "%s: %s", place->name, strerror(errno));
+}
+
+static void force_folder(const struct place *place) {
     if (fsync(place->folder) != 0)
         fail(4, "the folder of %s: %s; the image has its new bytes, but a cut of power may bring the old ones back",
             place->name, strerror(errno));
+}
+
+/* The new image beside the old one, forced to the disk; then the name; then the folder, forced to the disk. */
+static void replace(const struct place *place, struct image *image, const struct stat *like) {
+    put_number(image->bytes + CHECKSUM_AT, checksum(image));
+    clear_up(place);
+    write_new(place, place->aside, image, like);
+    if (renameat(place->folder, place->aside, place->folder, place->name) != 0) {
+        int why = errno;
+        unlinkat(place->folder, place->aside, 0);
+        fail(1, "%s: %s", place->name, strerror(why));
+    }
+    force_folder(place);
+}
+
+/* A new image under a name that nothing has. */
+static void put_new(const struct place *place, struct image *image, const struct stat *like) {
+    put_number(image->bytes + CHECKSUM_AT, checksum(image));
+    write_new(place, place->aside, image, like);
+    int status = renameat2(place->folder, place->aside, place->folder, place->name, RENAME_NOREPLACE);
+    if (status != 0 && (errno == EINVAL || errno == ENOSYS)) { /* a file system that cannot: by another name */
+        status = linkat(place->folder, place->aside, place->folder, place->name, 0);
+        if (status == 0)
+            unlinkat(place->folder, place->aside, 0);
+    }
+    if (status != 0) {
+        int why = errno;
+        unlinkat(place->folder, place->aside, 0);
+        fail(1, "%s: %s", place->name, why == EEXIST ? "is there already" : strerror(why));
+    }
+    force_folder(place);
 }
 
 static uint32_t number_in(const char *word, const char *what, uint32_t most) {
@@ -234,15 +356,7 @@ static uint32_t number_in(const char *word, const char *what, uint32_t most) {
     return (uint32_t)value;
 }
 
-static int make(const char *path, char **sizes) {
-    uint32_t size = number_in(sizes[0], "the volume's size", 65536);
-    uint32_t branches = number_in(sizes[1], "the number of branch rows", 4096);
-    uint32_t records = number_in(sizes[2], "the number of record rows", 65536);
-    uint32_t places = number_in(sizes[3], "the number of places", 65536);
-    struct place place = find_place(path);
-    struct stat found;
-    if (fstatat(place.folder, place.name, &found, AT_SYMLINK_NOFOLLOW) == 0)
-        fail(1, "%s is there already", path);
+static struct image empty_image(uint32_t branches, uint32_t records, uint32_t places) {
     struct image image;
     image.length = image_length(branches, records, places);
     image.bytes = room(image.length);
@@ -252,57 +366,209 @@ static int make(const char *path, char **sizes) {
     put_number(image.bytes + 12, records);
     put_number(image.bytes + 16, places);
     lay_out(&image);
+    return image;
+}
+
+static int make(const char *path, char **sizes) {
+    uint32_t size = number_in(sizes[0], "the volume's size", ROWS_MOST);
+    uint32_t branches = number_in(sizes[1], "the number of branch rows", BRANCHES_MOST);
+    uint32_t records = number_in(sizes[2], "the number of record rows", ROWS_MOST);
+    uint32_t places = number_in(sizes[3], "the number of places", ROWS_MOST);
+    struct place place = find_place(path);
+    struct stat like;
+    if (fstatat(place.folder, place.name, &like, AT_SYMLINK_NOFOLLOW) == 0)
+        fail(1, "%s is there already", path);
+    struct image image = empty_image(branches, records, places);
     uint32_t refusal = kizmoolet_fresh(size, image.head, HEAD, image.branches, image.branches_len, image.records,
         image.records_len, image.places, image.places_len, image.slab, image.slab_len);
     if (refusal)
         fail(1, "refusal %lu: size, branches, records and places must each be at least 1", (unsigned long)refusal);
     mode_t mask = umask(0);
     umask(mask);
-    replace(&place, &image, 0666 & ~mask);
+    if (fstat(place.folder, &like) != 0)
+        fail(1, "%s: %s", path, strerror(errno));
+    like.st_uid = geteuid();
+    if (!(like.st_mode & S_ISGID)) /* else the folder's group is the file's too */
+        like.st_gid = getegid();
+    like.st_mode = 0666 & ~mask;
+    put_new(&place, &image, &like);
     return 0;
 }
 
-static int run(const char *path, const char *limit) {
-    uint8_t *batch = room((size_t)BATCH_MAX + 1);
-    size_t batch_len = read_up_to(0, batch, BATCH_MAX);
-    if (batch_len > BATCH_MAX)
-        fail(1, "the batch is longer than %d bytes", BATCH_MAX);
-    /* as long as the answers can be, so that no batch stops with 14, unless the caller wants a shorter area */
-    size_t answers_len = batch_len / SMALLEST_REQUEST * LARGEST_ANSWER;
+/* What a call of the library reports. */
+struct done {
+    uint32_t stop;
+    uint64_t answered, request_bytes, answer_bytes;
+};
+
+static struct done call(
+    struct image *image, const uint8_t *batch, size_t batch_len, uint8_t *answers, size_t answers_len) {
+    struct done done;
+    done.stop = kizmoolet_batch(image->head, HEAD, image->branches, image->branches_len, image->records,
+        image->records_len, image->places, image->places_len, image->slab, image->slab_len, batch, batch_len, answers,
+        answers_len, &done.answered, &done.request_bytes, &done.answer_bytes);
+    return done;
+}
+
+/* The batch on standard input, in memory that grows with it. */
+static uint8_t *read_batch(size_t *length) {
+    size_t most = 1 << 16;
+    uint8_t *batch = room(most + 1);
+    *length = 0;
+    for (;;) {
+        *length += read_up_to(0, batch + *length, most - *length);
+        if (*length <= most)
+            return batch;
+        if (most == BATCH_MOST)
+            fail(1, "the batch is longer than %d bytes: nothing was carried out", BATCH_MOST);
+        most *= 2;
+        batch = realloc(batch, most + 1);
+        if (!batch)
+            fail(1, "no memory for %zu bytes", most + 1);
+    }
+}
+
+/* The bytes that the request at the start of these takes, or 0 where the store cannot read one. */
+static size_t request_length(const uint8_t *at, size_t left) {
+    size_t length = REQUEST + (left > 0 && at[0] >> 5 == WRITE ? PAGE : 0);
+    return left < length || at[0] >> 5 < WRITE || at[0] >> 5 > RECLAIM ? 0 : length;
+}
+
+/* The longest that the answers to a batch can be: with such an area no batch stops with 14. */
+static size_t longest_answers(const uint8_t *batch, size_t length) {
+    size_t longest = 0, takes;
+    for (size_t at = 0; (takes = request_length(batch + at, length - at)) != 0; at += takes)
+        longest += ANSWER + (batch[at] >> 5 == READ ? PAGE : 0);
+    return longest;
+}
+
+/* How many of the answers are refusals; and the bytes of the requests up to and with the first one refused. */
+static uint64_t refused_of(const uint8_t *answers, const uint8_t *batch, const struct done *done, size_t *first_end) {
+    uint64_t refused = 0;
+    size_t answer = 0, request = 0;
+    for (uint64_t at = 0; at < done->answered; at++) {
+        request += request_length(batch + request, (size_t)done->request_bytes - request);
+        if (answers[answer] >> 2 && refused++ == 0)
+            *first_end = request;
+        answer += ANSWER + (answers[answer] & 2 ? PAGE : 0);
+    }
+    return refused;
+}
+
+struct options {
+    int stop_at_refusal, all_or_nothing;
+    const char *copy;
+};
+
+static const char *several(uint64_t count) { return count == 1 ? "" : "s"; }
+
+static int run(const char *path, const char *limit, const struct options *options) {
+    size_t batch_len, first_end = 0;
+    uint8_t *batch = read_batch(&batch_len);
+    size_t answers_len = longest_answers(batch, batch_len);
     if (limit)
         answers_len = number_in(limit, "the length of the answer area", UINT32_MAX);
-    uint8_t *answers = room(answers_len);
+    uint8_t *answers = room(answers_len + 1);
     struct place place = find_place(path);
-    mode_t mode;
-    struct image image = load(&place, &mode);
-    uint8_t *before = room(image.length);
-    memcpy(before, image.bytes, image.length);
-    uint64_t answered, request_bytes, answer_bytes;
-    uint32_t stop = kizmoolet_batch(image.head, HEAD, image.branches, image.branches_len, image.records,
-        image.records_len, image.places, image.places_len, image.slab, image.slab_len, batch, batch_len, answers,
-        answers_len, &answered, &request_bytes, &answer_bytes);
+    struct stat found;
+    int file = open_locked(&place, &found);
+    struct image image = load(&place, file, &found), before = image;
+    before.bytes = room(image.length);
+    memcpy(before.bytes, image.bytes, image.length);
+    struct done done = call(&image, batch, batch_len, answers, answers_len);
+    uint64_t refused = refused_of(answers, batch, &done, &first_end);
+    if (refused && options->stop_at_refusal) { /* again from the start, and no further than the first one refused */
+        memcpy(image.bytes, before.bytes, image.length);
+        done = call(&image, batch, first_end, answers, answers_len);
+        refused = refused_of(answers, batch, &done, &first_end);
+    }
+    int undone = options->all_or_nothing && (refused || done.stop);
     /* reads change nothing, and need no new image */
-    if (memcmp(before, image.bytes, image.length) != 0)
-        replace(&place, &image, mode);
-    if (write_all(1, answers, (size_t)answer_bytes) != 0)
+    if (!undone && memcmp(before.bytes, image.bytes, image.length) != 0) {
+        must_be_writable(&place, &found);
+        if (options->copy) {
+            write_new(&place, options->copy, &before, &found);
+            copy_name = options->copy;
+            copy_folder = place.folder;
+            if (fsync(place.folder) != 0)
+                fail(1, "the folder of %s: %s; nothing was carried out", place.name, strerror(errno));
+        }
+        replace(&place, &image, &found);
+        if (options->copy)
+            fprintf(stderr, "copy %s\n", options->copy);
+    }
+    answers[done.answer_bytes] = (uint8_t)done.stop;
+    if (write_all(1, answers, (size_t)done.answer_bytes + 1) != 0)
         fail(4, "the answers could not be written: %s; the requests are carried out", strerror(errno));
-    fprintf(stderr, "stop %lu: %llu requests answered, %llu bytes of requests, %llu bytes of answers\n",
-        (unsigned long)stop, (unsigned long long)answered, (unsigned long long)request_bytes,
-        (unsigned long long)answer_bytes);
-    return stop == 0 ? 0 : 3;
+    fprintf(stderr, "stop %lu: %llu request%s answered, %llu refused, %llu bytes of requests, %llu bytes of answers%s\n",
+        (unsigned long)done.stop, (unsigned long long)done.answered, several(done.answered), (unsigned long long)refused,
+        (unsigned long long)done.request_bytes, (unsigned long long)done.answer_bytes,
+        undone ? "; nothing was carried out" : "");
+    return undone ? 6 : done.stop ? 3 : refused ? 5 : 0;
+}
+
+/* The same head, rows and pages, with zero rows and free places behind them. */
+static int grow(const char *path, char **sizes) {
+    static const char *const what[3] = {"branch rows", "record rows", "places"};
+    static const uint32_t most[3] = {BRANCHES_MOST, ROWS_MOST, ROWS_MOST};
+    uint32_t rows[3];
+    for (int at = 0; at < 3; at++)
+        rows[at] = number_in(sizes[at], what[at], most[at]);
+    struct place place = find_place(path);
+    struct stat found;
+    int file = open_locked(&place, &found);
+    struct image image = load(&place, file, &found);
+    for (int at = 0; at < 3; at++)
+        if (rows[at] < number_at(image.bytes + 8 + 4 * at))
+            fail(1, "%s has %lu %s, and gets no fewer", path,
+                (unsigned long)number_at(image.bytes + 8 + 4 * at), what[at]);
+    struct image larger = empty_image(rows[0], rows[1], rows[2]);
+    memcpy(larger.head, image.head, HEAD);
+    memcpy(larger.branches, image.branches, image.branches_len);
+    memcpy(larger.records, image.records, image.records_len);
+    memcpy(larger.places, image.places, image.places_len);
+    memcpy(larger.slab, image.slab, image.slab_len);
+    uint32_t stop = call(&image, NULL, 0, NULL, 0).stop; /* the library looks at the tables, before and after */
+    if (!stop)
+        stop = call(&larger, NULL, 0, NULL, 0).stop;
+    if (stop)
+        fail(1, "stop %lu: the tables are not sound, and stay as they are", (unsigned long)stop);
+    must_be_writable(&place, &found);
+    replace(&place, &larger, &found);
+    return 0;
+}
+
+static int usage(void) {
+    fputs("usage: host new IMAGE SIZE BRANCHES RECORDS PLACES\n"
+          "       host run [--stop-at-refusal | --all-or-nothing] [--copy NAME] IMAGE [ANSWER_BYTES] < batch > answers\n"
+          "       host grow IMAGE BRANCHES RECORDS PLACES\n",
+        stderr);
+    return 2;
 }
 
 int main(int count, char **words) {
     struct rlimit stack;
     if (getrlimit(RLIMIT_STACK, &stack) == 0 && stack.rlim_cur != RLIM_INFINITY && stack.rlim_cur < STACK_NEEDED)
-        fail(1, "the library needs about 1.3 MB of stack: allow 2 MB (ulimit -s 2048)");
+        fail(1, "the library takes 1.4 MB of stack: allow 2 MB (ulimit -s 2048)");
     signal(SIGPIPE, SIG_IGN); /* a reader that has gone is a failed write, which is reported */
     if (count == 7 && strcmp(words[1], "new") == 0)
         return make(words[2], words + 3);
-    if ((count == 3 || count == 4) && strcmp(words[1], "run") == 0)
-        return run(words[2], count == 4 ? words[3] : NULL);
-    fputs("usage: host new IMAGE SIZE BRANCHES RECORDS PLACES\n"
-          "       host run IMAGE [ANSWER_BYTES] < batch > answers\n",
-        stderr);
-    return 2;
+    if (count == 6 && strcmp(words[1], "grow") == 0)
+        return grow(words[2], words + 3);
+    if (count < 3 || strcmp(words[1], "run") != 0)
+        return usage();
+    struct options options = {0, 0, NULL};
+    int at = 2;
+    for (; at < count && strncmp(words[at], "--", 2) == 0; at++)
+        if (strcmp(words[at], "--stop-at-refusal") == 0)
+            options.stop_at_refusal = 1;
+        else if (strcmp(words[at], "--all-or-nothing") == 0)
+            options.all_or_nothing = 1;
+        else if (strcmp(words[at], "--copy") == 0 && at + 1 < count && !strchr(words[at + 1], '/'))
+            options.copy = words[++at];
+        else
+            return usage();
+    if (count - at < 1 || count - at > 2 || (options.stop_at_refusal && options.all_or_nothing))
+        return usage();
+    return run(words[at], count - at == 2 ? words[at + 1] : NULL, &options);
 }

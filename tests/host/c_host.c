@@ -2,15 +2,21 @@
    static library, calls it and compares each area, byte for byte.
 
    How an area lies in memory, by the first argument:
-   pages   between two pages that may not be touched, against the one after it or the one before it
-           in turn; the other side has bytes that nobody may change
-   exact   an allocation of just its length, for a run under a tool that watches allocations */
+   pages      between two pages that may not be touched, against the one after it or the one before it
+              in turn; the other side has bytes that nobody may change
+   protected  as pages; and what a call must not write to may only be read while it runs: all areas where
+              1, 2 or 3 is due, the batch always, the slab of a fresh store always. A call that writes
+              there all the same counts as one that differs
+   exact      an allocation of just its length, for a run under a tool that watches allocations */
 
 #define _GNU_SOURCE
 #include "kizmoolet.h"
+#include "kizmoolet_requests.h"
 
 #include <inttypes.h>
 #include <pthread.h>
+#include <setjmp.h>
+#include <signal.h>
 #include <stdbool.h>
 #include <stdio.h>
 #include <stdlib.h>
@@ -39,15 +45,18 @@ struct area {
 struct counts {
     uint64_t calls, compared, differ, answered;
     uint64_t stops[16], refusals[16];
+    uint64_t read_only[2][4]; /* calls that were refused with all areas protected: fresh stores, batches */
 };
 
 static struct area areas[AREAS];
 static struct counts counts;
 static uint64_t seen[16];
+static uint64_t seen_read_only[2][4];
 static uint64_t all_differ;
 static bool call_told;
 static unsigned printed;
 static bool exact;
+static bool protecting;
 static bool all_families;
 static uint8_t *expected;
 
@@ -149,32 +158,92 @@ static void compare_area(struct area *area, const char *name)
     }
 }
 
+static sigjmp_buf before_call;
+static volatile sig_atomic_t calling;
+static void *volatile touched;
+
+/* A call touched what it may not: back to before the call, with the address. */
+static void on_fault(int number, siginfo_t *info, void *context)
+{
+    (void)context;
+    if (!calling) {
+        signal(number, SIG_DFL);
+        return;
+    }
+    touched = info->si_addr;
+    siglongjmp(before_call, 1);
+}
+
+/* Lets the pages of an area, with the bytes beside it, be read only, or written again. */
+static void protect(const struct area *area, int how)
+{
+    size_t page = (size_t)sysconf(_SC_PAGESIZE);
+    size_t length = (area->length + MARGIN + page - 1) / page * page;
+    uint8_t *from = area->against_end ? area->between + most_bytes - length : area->between;
+    if (area->bytes != NULL && mprotect(from, length, how) != 0)
+        fail("the areas cannot be protected");
+}
+
+static void protect_for(uint64_t due, bool fresh, int how)
+{
+    for (int i = HEAD; protecting && i <= (fresh ? SLAB : ANSWERS); i++)
+        if ((due >= 1 && due <= 3) || i == BATCH || (fresh && i == SLAB))
+            protect(&areas[i], how);
+}
+
+static void tell_fault(void)
+{
+    for (int i = 0; i < AREAS; i++) {
+        const uint8_t *at = touched;
+        if (at >= areas[i].bytes && at < areas[i].bytes + areas[i].length) {
+            differs("written to, although it may only be read:", area_names[i]);
+            return;
+        }
+    }
+    differs("a fault", "outside the areas");
+}
+
 static void run_fresh(void)
 {
     uint32_t size = (uint32_t)get_number();
     uint32_t result = (uint32_t)get_number();
     counts.calls++;
     call_told = false;
-    uint32_t got = kizmoolet_fresh(size,
-        areas[HEAD].bytes, areas[HEAD].length,
-        areas[BRANCHES].bytes, areas[BRANCHES].length,
-        areas[RECORDS].bytes, areas[RECORDS].length,
-        areas[PLACES].bytes, areas[PLACES].length,
-        areas[SLAB].bytes, areas[SLAB].length);
-    counts.stops[got & 15]++;
-    if (got != result)
-        differs("the result of", "a fresh store");
+    protect_for(result, true, PROT_READ);
+    if (sigsetjmp(before_call, 1) == 0) {
+        calling = 1;
+        uint32_t got = kizmoolet_fresh(size,
+            areas[HEAD].bytes, areas[HEAD].length,
+            areas[BRANCHES].bytes, areas[BRANCHES].length,
+            areas[RECORDS].bytes, areas[RECORDS].length,
+            areas[PLACES].bytes, areas[PLACES].length,
+            areas[SLAB].bytes, areas[SLAB].length);
+        calling = 0;
+        counts.stops[got & 15]++;
+        if (got != result)
+            differs("the result of", "a fresh store");
+        else if (protecting && result <= 3)
+            counts.read_only[0][result]++;
+    } else {
+        calling = 0;
+        tell_fault();
+    }
+    protect_for(result, true, PROT_READ | PROT_WRITE);
     check_margins();
 }
 
-static void count_refusals(uint64_t answer_bytes)
+/* Takes the answers apart with the functions for hosts: as many as the batch reports, and no byte is left. */
+static void count_refusals(uint64_t answered, uint64_t answer_bytes)
 {
-    const uint8_t *answers = areas[ANSWERS].bytes;
-    uint64_t at = 0;
-    while (at + 5 <= answer_bytes) {
-        counts.refusals[answers[at] >> 2 & 15]++;
-        at += (answers[at] & 2) != 0 ? 261 : 5;
+    struct kizmoolet_answers answers = kizmoolet_answers_in(areas[ANSWERS].bytes, answer_bytes);
+    struct kizmoolet_answer answer;
+    uint64_t unpacked = 0;
+    while (kizmoolet_next_answer(&answers, &answer) == 1) {
+        counts.refusals[answer.refusal & 15]++;
+        unpacked++;
     }
+    if (unpacked != answered || answers.at != answer_bytes)
+        differs("the answers, taken apart, of", "the batch");
 }
 
 static void run_batch(void)
@@ -185,32 +254,44 @@ static void run_batch(void)
     uint64_t counted[3];
     for (int i = 0; i < 3; i++)
         counted[i] = get_number();
-    uint64_t got[3] = { 77, 77, 77 };
+    static uint64_t got[3];
+    got[0] = got[1] = got[2] = 77;
     /* The library only reads the batch. */
     if (areas[BATCH].length != 0)
         memcpy(expected, areas[BATCH].bytes, areas[BATCH].length);
     counts.calls++;
     call_told = false;
-    uint32_t got_stop = kizmoolet_batch(
-        areas[HEAD].bytes, areas[HEAD].length,
-        areas[BRANCHES].bytes, areas[BRANCHES].length,
-        areas[RECORDS].bytes, areas[RECORDS].length,
-        areas[PLACES].bytes, areas[PLACES].length,
-        areas[SLAB].bytes, areas[SLAB].length,
-        areas[BATCH].bytes, areas[BATCH].length,
-        areas[ANSWERS].bytes, areas[ANSWERS].length,
-        &got[0], &got[1], &got[2]);
-    counts.stops[got_stop & 15]++;
-    if (got_stop != stop || memcmp(got, counted, sizeof got) != 0) {
-        differs("what is reported of", "the batch");
-        if (printed <= 20)
-            printf("  stop %" PRIu32 ", should %" PRIu64 "; counts %" PRIu64 " %" PRIu64 " %" PRIu64
-                   ", should %" PRIu64 " %" PRIu64 " %" PRIu64 "\n",
-                got_stop, stop, got[0], got[1], got[2], counted[0], counted[1], counted[2]);
+    protect_for(stop, false, PROT_READ);
+    if (sigsetjmp(before_call, 1) == 0) {
+        calling = 1;
+        uint32_t got_stop = kizmoolet_batch(
+            areas[HEAD].bytes, areas[HEAD].length,
+            areas[BRANCHES].bytes, areas[BRANCHES].length,
+            areas[RECORDS].bytes, areas[RECORDS].length,
+            areas[PLACES].bytes, areas[PLACES].length,
+            areas[SLAB].bytes, areas[SLAB].length,
+            areas[BATCH].bytes, areas[BATCH].length,
+            areas[ANSWERS].bytes, areas[ANSWERS].length,
+            &got[0], &got[1], &got[2]);
+        calling = 0;
+        counts.stops[got_stop & 15]++;
+        if (got_stop != stop || memcmp(got, counted, sizeof got) != 0) {
+            differs("what is reported of", "the batch");
+            if (printed <= 20)
+                printf("  stop %" PRIu32 ", should %" PRIu64 "; counts %" PRIu64 " %" PRIu64 " %" PRIu64
+                       ", should %" PRIu64 " %" PRIu64 " %" PRIu64 "\n",
+                    got_stop, stop, got[0], got[1], got[2], counted[0], counted[1], counted[2]);
+        } else {
+            counts.answered += got[0];
+            count_refusals(got[0], got[2]);
+            if (protecting && stop <= 3)
+                counts.read_only[1][stop]++;
+        }
     } else {
-        counts.answered += got[0];
-        count_refusals(got[2]);
+        calling = 0;
+        tell_fault();
     }
+    protect_for(stop, false, PROT_READ | PROT_WRITE);
     if (areas[BATCH].length != 0 && memcmp(expected, areas[BATCH].bytes, areas[BATCH].length) != 0)
         differs("the area", "batch");
     compare_area(&areas[ANSWERS], area_names[ANSWERS]);
@@ -245,14 +326,30 @@ static void end_family(void)
     printf("; refusals ");
     print_numbers(counts.refusals, 1);
     printf("\n");
+    if (protecting)
+        printf("    on areas that may only be read: fresh stores 1: %" PRIu64 "; batches 1: %" PRIu64 ", 2: %" PRIu64
+               ", 3: %" PRIu64 "\n",
+            counts.read_only[0][1], counts.read_only[1][1], counts.read_only[1][2], counts.read_only[1][3]);
     for (int i = 0; i < 16; i++)
         seen[i] += counts.stops[i] + counts.refusals[i];
+    for (int i = 1; i <= 3; i++) {
+        seen_read_only[0][i] += counts.read_only[0][i];
+        seen_read_only[1][i] += counts.read_only[1][i];
+    }
     memset(&counts, 0, sizeof counts);
 }
 
 static void *work(void *result)
 {
     bool *good = result;
+    /* A fault is told from a stack of its own. */
+    static uint8_t fault_stack[1 << 16];
+    stack_t stack = { .ss_sp = fault_stack, .ss_size = sizeof fault_stack };
+    struct sigaction action = { .sa_sigaction = on_fault, .sa_flags = SA_SIGINFO | SA_ONSTACK };
+    if (protecting
+        && (sigaltstack(&stack, NULL) != 0 || sigaction(SIGSEGV, &action, NULL) != 0
+            || sigaction(SIGBUS, &action, NULL) != 0))
+        fail("faults cannot be told");
     for (;;) {
         uint8_t tag;
         get(&tag, 1);
@@ -282,6 +379,11 @@ static void *work(void *result)
             printf("  never seen: %d\n", i);
             *good = false;
         }
+    for (int i = 1; protecting && i <= 3; i++)
+        if (seen_read_only[1][i] == 0 || (i == 1 && seen_read_only[0][i] == 0)) {
+            printf("  never seen on areas that may only be read: %d\n", i);
+            *good = false;
+        }
     printf("  in all %" PRIu64 " calls differ\n", all_differ);
     return NULL;
 }
@@ -289,6 +391,7 @@ static void *work(void *result)
 int main(int argc, char **argv)
 {
     exact = argc > 1 && strcmp(argv[1], "exact") == 0;
+    protecting = argc > 1 && strcmp(argv[1], "protected") == 0;
     all_families = argc > 2 && strcmp(argv[2], "all") == 0;
     size_t page = (size_t)sysconf(_SC_PAGESIZE);
     if (most_bytes % page != 0)
@@ -303,12 +406,12 @@ int main(int argc, char **argv)
             fail("no memory");
         areas[i].between = whole + page;
     }
-    /* The library takes about 1.3 MB of the stack; the host itself takes little. */
+    /* The host itself takes little of the stack. */
     pthread_attr_t attributes;
     pthread_t thread;
     bool good = false;
     if (pthread_attr_init(&attributes) != 0
-        || pthread_attr_setstacksize(&attributes, (size_t)3 << 19) != 0
+        || pthread_attr_setstacksize(&attributes, (size_t)KIZMOOLET_STACK_BYTES + (128 << 10)) != 0
         || pthread_create(&thread, &attributes, work, &good) != 0
         || pthread_join(thread, NULL) != 0)
         fail("no thread");

@@ -15,8 +15,9 @@ unsafe fn copied(part: Part) -> Vec<u8> {
     }
 }
 
+/// An area that stays as it was is not written to: it may be one that can only be read.
 unsafe fn give_back(part: Part, bytes: &[u8]) {
-    if part.1 != 0 {
+    if part.1 != 0 && std::slice::from_raw_parts(part.0, part.1) != bytes {
         std::slice::from_raw_parts_mut(part.0, part.1).copy_from_slice(bytes);
     }
 }
@@ -52,11 +53,11 @@ pub unsafe extern "C" fn kizmoolet_fresh(
     records_len: usize,
     places: *mut u8,
     places_len: usize,
-    slab: *mut u8,
+    slab: *const u8,
     slab_len: usize,
 ) -> u32 {
     let parts =
-        [(head, head_len), (branches, branches_len), (records, records_len), (places, places_len), (slab, slab_len)];
+        [(head, head_len), (branches, branches_len), (records, records_len), (places, places_len), (slab.cast_mut(), slab_len)];
     let mut areas = taken(&parts);
     let result = reference::fresh(size, &mut areas);
     returned(&parts, &areas);

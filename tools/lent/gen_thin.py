@@ -4,7 +4,7 @@ the rows are stored, and the new head is stored behind its reference. They diffe
 import os
 import sys
 sys.path.insert(0, 'tools/lent')
-from walk import Walk, S, PROJ, nest, cons, star, SL, times, fill, prune
+from walk import TABLES, Walk, S, PROJ, nest, cons, star, SL, times, fill, prune
 
 class P:
     """a parameter: kind is ref (the head), rows, mut, shr or num; elem its type; var its list or number"""
@@ -205,7 +205,7 @@ class Fn:
         tv = "(sliceVal (%s, 0) N ∷ [])" % lt
         w.emit("falls ! %s $" % w.load(L["test"]))
         w.emit("-- the table is made, and stands as its elements from now on")
-        w.assign("rep ! 12288 (lit ! tt)", L["table"], "repeat-typed u32 0 (vint w32 0) zero-is 𝓤 H A W N (uint-lawful 𝓤 H A W w32)")
+        w.assign("rep ! N (lit ! tt)", L["table"], "repeat-typed u32 0 (vint w32 0) zero-is 𝓤 H A W N (uint-lawful 𝓤 H A W w32)")
         w.emit("use0 W (‵ (Array u32 N .own zeros (repeat-val N (vint w32 0) ∷ []))) (repeat-own u32 0 (vint w32 0) zero-is 𝓤 H A W N (uint-makes 𝓤 H A W w32) (uint-copy 𝓤 H A W w32)) $"); w.become(0, "zown")
         w.step("use2 W (‵ (here u32 N %s zeros)) (array-in 𝓤 H A W u32 N %s tt zeros (repeat-val N (vint w32 0)))" % (lt, lt), [L["table"], "zown"], "array")
         self.parts(w)
@@ -360,19 +360,23 @@ HEADER = open('tools/lent/thin_header.txt').read()
 FOOTER = open('tools/lent/thin_footer.txt').read()
 
 REPORT = dict(ty="Report", row="Q.the-row", low="Q′.lowered %s", makes="(LL.makes Q.the-type Q′.the-plain) 𝓤 H A", typed="LL.lawful Q.the-type Q′.the-laws 𝓤 H A W .typed %s _ %s .0",
-    specs="use Rattle.lent.specs.declared.Report.{Report}\nuse Rattle.lent.specs.declared.Ended.{Ended}\nuse Rattle.lent.specs.Lent.{lentBatch, BatchLeaves}\nuse Rattle.lent.proofs.Lending.{many-batch-leaves}",
+    specs="use Rattle.lent.specs.declared.Report.{Report}\nuse Rattle.lent.specs.declared.Ended.{Ended}\nuse Rattle.lent.specs.Lent.{lent, lentBatch, BatchLeaves}\nuse Rattle.lent.proofs.Lending.{many-batch-leaves}",
     mods="use Rattle.lent.proofs.Report as Q\nuse Rattle.lent.proofs.Report.Laws as Q′\n", outmod="Rattle.lent.proofs.Ended",
     refused="record { stop = 1; answered = 0; taken = 0; sent = 0 }", refused_is="LL.owes Q.the-type Q′.the-laws refused ((refl, lit< tt), ((refl, lit< tt), ((refl, lit< tt), ((refl, lit< tt), tt))))",
     refused_rv="agg ! (and-then ! (lit ! tt) (and-then ! (lit ! tt) (and-then ! (lit ! tt) (and-then ! (lit ! tt) (no-more !)))))")
 NUMBER = dict(ty="ℕ", row="u32", low="vint w32 %s", makes="uint-makes 𝓤 H A W w32", typed="uint-lawful 𝓤 H A W w32 .typed %s _ %s .0",
-    specs="use Rattle.fresh.specs.declared.Made.{Made}\nuse Rattle.lent.specs.Lent.{lentFresh, lentRefusal, FreshLeaves}\nuse Rattle.lent.proofs.Lending.{many-fresh-leaves}",
+    specs="use Rattle.fresh.specs.declared.Made.{Made}\nuse Rattle.lent.specs.Lent.{lent, FreshLeaves}\nuse Rattle.lent.proofs.Lending.{many-fresh-leaves}",
     mods="", outmod="Rattle.fresh.proofs.Made", refused="1", refused_is="(refl, lit< tt)", refused_rv="of-opd ! (lit ! tt)")
 
-Fn("run_batch", "a batch", [P("head", "ref"), P("branches", "rows"), P("rt", "mut", "u32"), P("pt", "mut", "u32"), P("slab", "mut", "u8"), P("input", "shr", "u8"), P("answers", "mut", "u8")],
-   "batch_rows", ["head", "count", "table", "rt", "pt", "slab", "input", "answers"], "Ended", "report", REPORT,
-   "BatchLeaves (lentBatch h %(rows)s rt pt slab input (length answers)) rt answers %(r)s %(head)s %(rows2)s %(z_rt)s %(z_pt)s %(z_slab)s %(z_answers)s",
-   "many-batch-leaves h ys rt pt slab big input answers").write()
-Fn("make_fresh", "making a fresh store", [P("head", "ref"), P("size", "num"), P("branches", "rows"), P("rt", "mut", "u32"), P("pt", "mut", "u32"), P("slab", "shr", "u8")],
-   "fresh_rows", ["head", "size", "count", "table", "rt", "pt", "slab"], "Made", "refusal", NUMBER,
-   "FreshLeaves (lentRefusal h %(rows)s rt pt slab size) (lentFresh h %(rows)s rt pt slab size) rt %(r)s %(head)s %(rows2)s %(z_rt)s %(z_pt)s",
-   "many-fresh-leaves h ys rt pt slab big size").write()
+numbers = [P(t, "mut", "u32") for t in TABLES]
+names = " ".join(TABLES)
+lasts = " ".join("%%(z_%s)s" % t for t in TABLES)
+lent = "(lent %%(rows)s %s slab)" % names
+Fn("run_batch", "a batch", [P("head", "ref"), P("branches", "rows")] + numbers + [P("slab", "mut", "u8"), P("input", "shr", "u8"), P("answers", "mut", "u8")],
+   "batch_rows", ["head", "count", "table"] + TABLES + ["slab", "input", "answers"], "Ended", "report", REPORT,
+   "BatchLeaves (lentBatch h %s input (length answers)) %s answers %%(r)s %%(head)s (lent %%(rows2)s %s %%(z_slab)s) %%(z_answers)s" % (lent, lent, lasts),
+   "many-batch-leaves h (lent ys %s slab) big input answers" % names).write()
+Fn("make_fresh", "making a fresh store", [P("head", "ref"), P("size", "num"), P("branches", "rows")] + [P(t, "mut", "u32") for t in TABLES] + [P("slab", "shr", "u8")],
+   "fresh_rows", ["head", "size", "count", "table"] + TABLES + ["slab"], "Made", "refusal", NUMBER,
+   "FreshLeaves h %s size %%(r)s %%(head)s (lent %%(rows2)s %s slab)" % (lent, lasts),
+   "many-fresh-leaves h (lent ys %s slab) big size" % names).write()

@@ -3,6 +3,9 @@ worked out, and changes the list as the step changes the context. A wrong name r
 
 import re
 
+# the tables of numbers that are lent beside the branch rows, in the order of the parameters
+TABLES = ["rt", "pt"]
+
 class Walk:
     def __init__(self, names, indent="        "):
         self.c = list(names)      # the context, head first

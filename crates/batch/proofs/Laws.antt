@@ -14,8 +14,9 @@ use Rattle.model.specs.Soundness.{tableCheck}
 use Rattle.model.specs.Wire.{Request, Parsed, end, stop, one, parse, Answer, pageBytes, answerBytes}
 use Rattle.model.specs.Step.{step}
 use Rattle.model.specs.Batch.{Answered, Run, ended, andThen, batch}
-use Rattle.model.proofs.Invariant.{Sound, sound-check}
-use Rattle.model.proofs.Parsing.{Whole, Reads, parse-reads}
+use Rattle.model.proofs.Invariant.{sound-check}
+use Rattle.model.specs.ByNumber.{Sound, Whole}
+use Rattle.model.proofs.Parsing.{Reads, parse-reads}
 use Rattle.model.proofs.Running.{batch-end, batch-stop, batch-full, batch-next}
 use Rattle.model.proofs.RoundTrip.{length-answer}
 use types.Run.{OneOf}
@@ -23,6 +24,7 @@ use denote.Enum.Declared.{tagOf}
 use Rattle.wire.proofs.Parsed.{the-type}
 use Rattle.wire.specs.declared.Parsed as wire
 use Rattle.wire.specs.declared.Request as wire-request
+use Rattle.wire.specs.declared.Request.the-variants.{Write}
 use Rattle.wire.specs.declared.Parsed.the-variants.{End, Stop, One}
 use Rattle.wire.specs.Requests.{requestOf, parsedOf}
 use Rattle.batch.specs.Batch.{stopOf}
@@ -54,6 +56,10 @@ part-back a i ys =
 -- a page that is whole has room behind seven bytes
 pub page-room : (part : List ℕ) → length (take 256 (drop 7 part)) ≡ 256 → 263 ≤ length part
 page-room part e = omega (arith, length-take 256 (drop 7 part), length-drop 7 part)
+
+-- a write that is whole has such a page
+pub whole-page : (part : List ℕ) (q : wire-request.Request) (a : ℕ) → q ≡ Write a → Whole (requestOf part q) → length (take 256 (drop 7 part)) ≡ 256
+whole-page part q a e h = rw e at h
 
 -- a list of three parts, cut after the second
 module _ (w y z b : List ℕ) (n : ℕ) (g : b ≡ w ++ (y ++ z)) (h : length w + length y ≡ n) where

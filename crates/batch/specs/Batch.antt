@@ -3,32 +3,26 @@ use mathlib.Core.Path.{_≡_}
 use mathlib.Core.List.{List}
 use mathlib.Core.Bool.{cond}
 use Prim.Native.Nat.{ℕ}
-use lib.ListN.{length}
 use Rattle.model.specs.declared.Head.{Head}
 use Rattle.model.specs.Batch.{Run, ended, answeredCount, requestCount, answerCount, areaAfter, batch}
-use Rattle.rows.specs.Rows.{branchTable, recordTable}
-use Rattle.rows.specs.View.{storeOf}
-use Rattle.soundness.specs.Check.{wholeRows}
+use Rattle.rows.specs.View.{Tables, storeOf, laid}
+use Rattle.soundness.specs.Check.{wholeTables}
 use Rattle.wire.specs.declared.Parsed.{Parsed}
 use Rattle.wire.specs.declared.Parsed.the-variants.{End, Stop, One}
 use Rattle.batch.specs.declared.Done.{Done}
 
 -- the model's batch on what is lent; a table that is no whole number of rows is refusal 1
-unfoldable pub batchOf : Head → List ℕ → List ℕ → List ℕ → List ℕ → List ℕ → ℕ → Run
-batchOf head bt rt pt slab input space =
-    cond (wholeRows (length bt) (length rt)) (batch (storeOf head bt rt pt slab) input space) (ended (storeOf head bt rt pt slab) 1)
+unfoldable pub batchOf : Head → Tables → List ℕ → ℕ → Run
+batchOf head t input space = cond (wholeTables t) (batch (storeOf head t) input space) (ended (storeOf head t) 1)
 
--- the stop number, the three counts, the head, each table, the slab and the answer area are as a run says
-pub record Leaves (run : Run) (bt rt area : List ℕ) (r : Done) (bt′ rt′ pt′ slab′ area′ : List ℕ) : Type 0 where
+-- the stop number, the three counts, the head, every number of each table, the slab and the answer area are as a run says
+pub record BatchLeaves (run : Run) (t : Tables) (area : List ℕ) (r : Done) (t′ : Tables) (area′ : List ℕ) : Type 0 where
   pub stop : r .stop ≡ run .stop
   pub answered : r .answered ≡ answeredCount run
   pub taken : r .taken ≡ requestCount run
   pub sent : r .sent ≡ answerCount run
   pub head : r .head ≡ run .store .head
-  pub branches : bt′ ≡ branchTable (run .store .branchRows) bt
-  pub records : rt′ ≡ recordTable (run .store .recordRows) rt
-  pub places : pt′ ≡ run .store .placeRows
-  pub slab : slab′ ≡ run .store .slab
+  pub tables : t′ ≡ laid (run .store) t
   pub answers : area′ ≡ areaAfter run area
 
 -- with which number a batch stops where no request is read

@@ -5,13 +5,11 @@ use wire::Parsed;
 use wire::Request;
 ghost use mathlib.Core.Path.{_≡_};
 ghost use lib.ListN.{length};
-ghost use Rattle.model.specs.Step.{step};
 ghost use Rattle.model.specs.Batch.{batch};
-ghost use Rattle.model.proofs.Invariant.{Sound};
-ghost use Rattle.model.proofs.Parsing.{Whole};
-ghost use Rattle.rows.specs.View.{storeOf, steppedOf, WholeRows};
+ghost use Rattle.model.specs.ByNumber.{Sound, Whole};
+ghost use Rattle.rows.specs.View.{tables, storeOf, Carried};
 ghost use Rattle.wire.specs.Requests.{requestOf};
-ghost use Rattle.batch.specs.Batch.{batchOf, stopOf, Leaves};
+ghost use Rattle.batch.specs.Batch.{batchOf, stopOf, BatchLeaves};
 
 // What a batch reports: the head, the stop number, the requests answered, their bytes, and the bytes of their answers.
 pub struct Done {
@@ -32,8 +30,8 @@ pub fn serve(
     part: &[u8],
     q: Request,
 ) -> Outcome
-    requires { ⌜ Sound (storeOf head (now bt) (now rt) (now pt) (now slab)) × Whole (requestOf (now part) q) ⌝ }
-    ensures { λ r. ⌜ steppedOf r (now (bt .exit)) (now (rt .exit)) (now (pt .exit)) (now (slab .exit)) ≡ step (storeOf head (now (bt .entry)) (now (rt .entry)) (now (pt .entry)) (now (slab .entry))) (requestOf (now (part .entry)) q) ⌝ }
+    requires { ⌜ Sound (storeOf head (tables (now bt) (now rt) (now pt) (now slab))) × Whole (requestOf (now part) q) ⌝ }
+    ensures { λ r. ⌜ Carried head (tables (now (bt .entry)) (now (rt .entry)) (now (pt .entry)) (now (slab .entry))) (requestOf (now (part .entry)) q) r (tables (now (bt .exit)) (now (rt .exit)) (now (pt .exit)) (now (slab .exit))) ⌝ }
 {
     match q {
         Request::Write(a) => writing::write(head, rt, pt, slab, a, &part[7..263]),
@@ -65,8 +63,8 @@ pub fn run(
     input: &[u8],
     answers: &mut [u8],
 ) -> Done
-    requires { ⌜ Sound (storeOf first (now bt) (now rt) (now pt) (now slab)) × WholeRows (now bt) (now rt) ⌝ }
-    ensures { λ r. ⌜ Leaves (batch (storeOf first (now (bt .entry)) (now (rt .entry)) (now (pt .entry)) (now (slab .entry))) (now (input .entry)) (length (now (answers .entry)))) (now (bt .entry)) (now (rt .entry)) (now (answers .entry)) r (now (bt .exit)) (now (rt .exit)) (now (pt .exit)) (now (slab .exit)) (now (answers .exit)) ⌝ }
+    requires { ⌜ Sound (storeOf first (tables (now bt) (now rt) (now pt) (now slab))) ⌝ }
+    ensures { λ r. ⌜ BatchLeaves (batch (storeOf first (tables (now (bt .entry)) (now (rt .entry)) (now (pt .entry)) (now (slab .entry)))) (now (input .entry)) (length (now (answers .entry)))) (tables (now (bt .entry)) (now (rt .entry)) (now (pt .entry)) (now (slab .entry))) (now (answers .entry)) r (tables (now (bt .exit)) (now (rt .exit)) (now (pt .exit)) (now (slab .exit))) (now (answers .exit)) ⌝ }
 {
     let mut head = first;
     let mut answered: usize = 0;
@@ -95,7 +93,8 @@ pub fn run(
     }
 }
 
-fn report(head: Head, stop: u32, answered: usize, taken: usize, sent: usize) -> Done
+// A report of these numbers.
+pub fn report(head: Head, stop: u32, answered: usize, taken: usize, sent: usize) -> Done
     ensures { λ r. ⌜ r ≡ record { head = head; stop = stop; answered = answered; taken = taken; sent = sent } ⌝ }
 {
     Done {
@@ -107,7 +106,7 @@ fn report(head: Head, stop: u32, answered: usize, taken: usize, sent: usize) -> 
     }
 }
 
-// A batch on what is lent, whatever it holds.
+// A batch on what is lent, whatever it holds. Where the table checks refuse, nothing is written.
 pub fn batch(
     head: Head,
     bt: &mut [u32],
@@ -117,7 +116,7 @@ pub fn batch(
     input: &[u8],
     answers: &mut [u8],
 ) -> Done
-    ensures { λ r. ⌜ Leaves (batchOf head (now (bt .entry)) (now (rt .entry)) (now (pt .entry)) (now (slab .entry)) (now (input .entry)) (length (now (answers .entry)))) (now (bt .entry)) (now (rt .entry)) (now (answers .entry)) r (now (bt .exit)) (now (rt .exit)) (now (pt .exit)) (now (slab .exit)) (now (answers .exit)) ⌝ }
+    ensures { λ r. ⌜ BatchLeaves (batchOf head (tables (now (bt .entry)) (now (rt .entry)) (now (pt .entry)) (now (slab .entry))) (now (input .entry)) (length (now (answers .entry)))) (tables (now (bt .entry)) (now (rt .entry)) (now (pt .entry)) (now (slab .entry))) (now (answers .entry)) r (tables (now (bt .exit)) (now (rt .exit)) (now (pt .exit)) (now (slab .exit))) (now (answers .exit)) ⌝ }
 {
     let refusal = soundness::check(head, bt, rt, pt, slab);
     if refusal != 0 {

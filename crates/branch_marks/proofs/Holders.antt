@@ -1,20 +1,20 @@
 -- The laws of branch rows by index.
-use mathlib.Core.Path.{_≡_, refl, ap, sym, _∙_}
+use mathlib.Core.Path.{_≡_, refl, ap, sym, _∙_, subst}
 use mathlib.Core.Logic.{_⊎_, inl, inr}
-use mathlib.Core.List.{List, [], _∷_, map}
+use mathlib.Core.List.{List, _∷_}
 use mathlib.Core.Bool.{Bool, true, false, cond, false≢true}
-use Prim.Native.Nat.{ℕ, zero, suc, _≤_, _<_}
+use Prim.Native.Nat.{ℕ, zero, suc, _+_, _-_, _≤_, _<_}
 use native.Mathlib.Omega.{arith}
 use lib.Dec.{ltb, eqb}
 use lib.ListN.{length}
 use borrow.Author.Tests.{ltb-true, ltb-false, eqb-true, eqb-false}
 use Rattle.model.specs.declared.Branch.{Branch}
-use Rattle.model.specs.Store.{zero-branch, keep, any, _∈_}
+use Rattle.model.specs.Store.{zero-branch, any, _∈_}
 use Rattle.model.specs.Lookup.{holds, ancestry, inAncestry}
-use Rattle.model.proofs.Base.{case, absurd-test, keep-mem, any-mem, mem-any}
+use Rattle.model.proofs.Base.{case, absurd-test, any-mem, mem-any}
 use Rattle.model.proofs.Ancestry.{Holds, holds→, →holds, not-holds, inAncestry-hold, inAncestry-skip, inAncestry-here, inAncestry-next}
-use Rattle.model.proofs.Candidates.{candidates}
-use Rattle.model.proofs.ByNumber.{branch, newestOf, top, held, Line}
+use Rattle.model.specs.ByNumber.{branch, newestOf, held, Line}
+use Rattle.model.proofs.ByNumber.{top}
 use Rattle.branch_marks.specs.Marks.{holder, Holder, wanted, parentOf}
 
 pub line-less : {bs : List Branch} {n : ℕ} → Line bs n → (m : ℕ) → m ≤ n → Line bs m
@@ -79,18 +79,25 @@ module _ {bs : List Branch} {n : ℕ} (h : Line bs n) where
         let z : branch bs mid .start ≤ t = rw q at (k .low) in
         absurd (omega arith)))
 
--- the row q is kept by a reclaim to the floor m
-abbrev pub want : List Branch → ℕ → ℕ → ℕ → Bool
-want bs n m q = wanted bs n m (branch bs q .start)
+-- the row that holds a moment, tried
+pub row-here : {bs : List Branch} {n i m : ℕ} {b : Branch} → Line bs n → i < n → b ≡ branch bs i → b .start ≤ m → m ≤ b .end → Holder bs n m i
+row-here {bs} {n} {i} {m} {b} h l e a c =
+    let a′ : branch bs i .start ≤ m = rw e at a in
+    let c′ : m ≤ branch bs i .end = rw e at c in
+    record { here = holder-is h n m i (omega arith) l a′ c′; inside = l; low = a′; high = c′ }
 
--- a kept row of those from i on has j as its parent
-pub record Claimed (bs : List Branch) (n m i j : ℕ) : Type 0 where
-  pub child : ℕ
-  pub from : i ≤ child
-  pub after : j < child
-  pub below : child < n
-  pub kept : want bs n m child ≡ true
-  pub cut : holder bs child (branch bs child .cut) ≡ j
+pub row-before : {bs : List Branch} {n i m : ℕ} {b d : Branch} → Line bs n → n ≤ length bs → held bs n m ≡ true → i < n → (i ≡ 0 → ⊥) → b ≡ branch bs i → m < b .start
+    → d ≡ branch bs (i - 1) → d .start ≤ m → Holder bs n m (i - 1)
+row-before {bs} {n} {i} {m} {b} {d} h room hd l z e a f c =
+    let a′ : m < branch bs i .start = rw e at a in
+    let c′ : branch bs (i - 1) .start ≤ m = rw f at c in
+    let s = holder-of bs n m room hd in
+    let q : i - 1 ≡ holder bs n m = omega (arith, holder-up h s (i - 1) (omega arith) c′, holder-down h s i l a′) in
+    rw q s
+
+-- the row q is in the ancestry of one of the moments
+abbrev pub want : List Branch → ℕ → List ℕ → ℕ → Bool
+want bs n ts q = wanted bs n ts (branch bs q .start)
 
 -- ways by index
 abbrev pub on : List Branch → ℕ → ℕ → ℕ → Bool
@@ -125,25 +132,6 @@ row-mem bs (suc n) q l i =
     (case (eqb q n)
     (λ e. inl (ap (branch bs) (eqb-true q n e)))
     (λ e. let ne : q ≡ n → ⊥ = eqb-false q n e in inr (ih (omega arith))))
-
-start-mem : (bs : List Branch) (b : Branch) → b ∈ bs → b .start ∈ map (λ (d : Branch). d .start) bs
-start-mem (c ∷ bs) b (inl e) = inl (ap (λ (d : Branch). d .start) e)
-start-mem (c ∷ bs) b (inr m) = inr (start-mem bs b m)
-
-above : (m x : ℕ) (bs : List Branch) → x ∈ map (λ (d : Branch). d .start) (keep (λ d. ltb m (d .start)) bs) → m < x
-unfolding keep
-above m x [] i = absurd i
-above m x (c ∷ bs) i =
-    case (ltb m (c .start))
-    (λ d.
-    let i′ : (x ≡ c .start) ⊎ (x ∈ map (λ (d : Branch). d .start) (keep (λ d. ltb m (d .start)) bs)) = rw d at i in
-    elim i′ [ inl e ↦ (let z : m < c .start = ltb-true m (c .start) d in omega arith) | inr j ↦ above m x bs j ])
-    (λ d. above m x bs (rw d at i))
-
--- candidates are not below the floor
-pub candidate-low : (m x : ℕ) (bs : List Branch) → x ∈ candidates m bs → m ≤ x
-candidate-low m x bs (inl e) = omega arith
-candidate-low m x bs (inr i) = omega (arith, above m x bs i)
 
 module _ {bs : List Branch} {n : ℕ} (h : Line bs n) (room : n ≤ length bs) where
   pub parent-holder : (i : ℕ) → 0 < i → i < n → Holder bs i (branch bs i .cut) (parentOf bs i)
@@ -254,47 +242,39 @@ module _ {bs : List Branch} {n : ℕ} (h : Line bs n) (room : n ≤ length bs) w
             })
       ])
 
-  module _ (m : ℕ) where
-    want-by : (q t : ℕ) → t ∈ candidates m (newestOf bs n) → on bs n t (branch bs q .start) ≡ true → want bs n m q ≡ true
+  module _ (ts : List ℕ) where
+    want-by : (q t : ℕ) → t ∈ ts → on bs n t (branch bs q .start) ≡ true → want bs n ts q ≡ true
     unfolding wanted
-    want-by q t i o = any-mem (λ u. on bs n u (branch bs q .start)) t (candidates m (newestOf bs n)) i o
+    want-by q t i o = any-mem (λ u. on bs n u (branch bs q .start)) t ts i o
 
-    want→ : (q : ℕ) → want bs n m q ≡ true → (t : ℕ) × (t ∈ candidates m (newestOf bs n)) × (on bs n t (branch bs q .start) ≡ true)
+    want→ : (q : ℕ) → want bs n ts q ≡ true → (t : ℕ) × (t ∈ ts) × (on bs n t (branch bs q .start) ≡ true)
     unfolding wanted
-    want→ q e = mem-any (λ u. on bs n u (branch bs q .start)) (candidates m (newestOf bs n)) e
+    want→ q e = mem-any (λ u. on bs n u (branch bs q .start)) ts e
 
-    -- a row that ends at the floor or above
-    pub want-end : (q : ℕ) → q < n → m ≤ branch bs q .end → want bs n m q ≡ true
-    want-end q i l =
-        case (ltb m (branch bs q .start))
-        (λ d.
-        want-by q (branch bs q .start)
-        (inr (start-mem (keep (λ b. ltb m (b .start)) (newestOf bs n)) (branch bs q) (keep-mem (λ b. ltb m (b .start)) (branch bs q) (newestOf bs n) (row-mem bs n q room i) d)))
-        (on-own n (branch bs q .start) q (omega arith) i (omega arith) (h .stairs .ordered q i)))
-        (λ d. want-by q m (inl refl) (on-own n m q (omega arith) i (ltb-false m (branch bs q .start) d) l))
+    -- a row that holds a moment of the list
+    pub want-holder : (t r : ℕ) → t ∈ ts → Holder bs n t r → want bs n ts r ≡ true
+    want-holder t r i k = want-by r t i (on-own n t r (omega arith) (k .inside) (k .low) (k .high))
 
     -- the parent of a wanted row
-    pub want-parent : (q : ℕ) → 0 < q → q < n → want bs n m q ≡ true → want bs n m (holder bs q (branch bs q .cut)) ≡ true
+    pub want-parent : (q : ℕ) → 0 < q → q < n → want bs n ts q ≡ true → want bs n ts (parentOf bs q) ≡ true
     want-parent q z i e =
         let w = want→ q e in
-        let s : Holder bs q (branch bs q .cut) (holder bs q (branch bs q .cut)) = holder-of bs q (branch bs q .cut) (omega arith) (h .parent q z i) in
-        want-by (holder bs q (branch bs q .cut)) (w .0) (w .1)
-        (on-through n (w .0) q (branch bs (holder bs q (branch bs q .cut)) .start) (omega arith) i (w .2)
-        (on-own q (branch bs q .cut) (holder bs q (branch bs q .cut)) (omega arith) (s .inside) (s .low) (s .high)))
+        let s : Holder bs q (branch bs q .cut) (parentOf bs q) = parent-holder q z i in
+        want-by (parentOf bs q) (w .0) (w .1)
+        (on-through n (w .0) q (branch bs (parentOf bs q) .start) (omega arith) i (w .2)
+        (on-own q (branch bs q .cut) (parentOf bs q) (omega arith) (s .inside) (s .low) (s .high)))
 
-    -- and no other row
-    pub want-only : (q : ℕ) → q < n → want bs n m q ≡ true → branch bs q .end < m → Claimed bs n m (suc q) q
-    want-only q i e l =
-        let w = want→ q e in
-        elim (on-only n (w .0) q (omega arith) i (w .2)) [
-          | inl y ↦ absurd (omega (arith, candidate-low m (w .0) (newestOf bs n) (w .1), y .high))
-          | inr y ↦
-              record {
-                child = y .child;
-                from = y .after;
-                after = y .after;
-                below = y .below;
-                kept = want-by (y .child) (w .0) (w .1) (y .on-it);
-                cut = y .cut;
-              }
-        ]
+    -- what has the holders of the moments, and with a row its parent, has every wanted row
+    module _ (P : ℕ → Type 0) (holders : (t : ℕ) → t ∈ ts → P (holder bs n t)) (parents : (q : ℕ) → 0 < q → q < n → P q → P (parentOf bs q)) where
+      on-reached : (t : ℕ) → t ∈ ts → (d q : ℕ) → n ≤ q + d → q < n → on bs n t (branch bs q .start) ≡ true → P q
+      on-reached t i zero q l a o = absurd (omega arith)
+      on-reached t i (suc d) q l a o =
+          elim (on-only n t q (omega arith) a o) [
+            | inl y ↦ subst P (sym (holder-is h n t q (omega arith) a (y .low) (y .high))) (holders t i)
+            | inr y ↦
+                let c : P (y .child) = on-reached t i d (y .child) (omega (arith, y .after)) (y .below) (y .on-it) in
+                subst P (y .cut) (parents (y .child) (omega (arith, y .after)) (y .below) c)
+          ]
+
+      pub want-reached : (q : ℕ) → q < n → want bs n ts q ≡ true → P q
+      want-reached q a e = let w = want→ q e in on-reached (w .0) (w .1) n q (omega arith) a (w .2)

@@ -1,14 +1,14 @@
--- Branches by row number: the branch that holds a moment, the parent of a branch, and the branches that a reclaim keeps.
+-- Branches by row number: the branch that holds a moment, the parent of a branch, and the branches that a list of moments needs.
 use mathlib.Core.Path.{_≡_}
 use mathlib.Core.List.{List}
-use mathlib.Core.Bool.{Bool, cond}
+use mathlib.Core.Bool.{Bool, true, cond}
 use Prim.Native.Nat.{ℕ, zero, suc, _≤_, _<_}
+use lib.Dec.{eqb}
 use lib.ListN.{length, getD}
 use Rattle.model.specs.declared.Branch.{Branch}
-use Rattle.model.specs.Store.{any}
+use Rattle.model.specs.Store.{any, _∈_}
 use Rattle.model.specs.Lookup.{holds, inAncestry}
-use Rattle.model.proofs.Candidates.{candidates}
-use Rattle.model.proofs.ByNumber.{branch, newestOf}
+use Rattle.model.specs.ByNumber.{branch, newestOf, held}
 
 -- the newest of the first n rows that holds the moment t
 unfoldable pub holder : List Branch → ℕ → ℕ → ℕ
@@ -26,14 +26,22 @@ pub record Holder (bs : List Branch) (n t r : ℕ) : Type 0 where
 abbrev pub bit : Bool → ℕ
 bit b = cond b 1 0
 
--- the branch that starts at x is in the ancestry of a moment that decides a reclaim to the floor m: the floor, or a start above it.
--- These decide for all moments from the floor to now (proofs/Candidates of the model)
-unfoldable pub wanted : List Branch → ℕ → ℕ → ℕ → Bool
-wanted bs n m x = any (λ t. inAncestry (newestOf bs n) t x) (candidates m (newestOf bs n))
+-- moments that are held by one of the first n branches
+pub record Held (bs : List Branch) (n : ℕ) (moments : List ℕ) : Type 0 where
+  pub each : (t : ℕ) → t ∈ moments → held bs n t ≡ true
+
+-- the branch that starts at x is in the ancestry of one of the moments
+unfoldable pub wanted : List Branch → ℕ → List ℕ → ℕ → Bool
+wanted bs n moments x = any (λ t. inAncestry (newestOf bs n) t x) moments
 
 -- a table whose first n numbers are f 0, f 1, .., the others as they were
 pub record Filled (f : ℕ → ℕ) (n : ℕ) (old new : List ℕ) : Type 0 where
   pub first : (k : ℕ) → k < n → getD new k 0 ≡ f k
+  pub rest : (k : ℕ) → n ≤ k → getD new k 0 ≡ getD old k 0
+  pub long : length new ≡ length old
+
+-- the numbers from n on are as they were
+pub record Rest (n : ℕ) (old new : List ℕ) : Type 0 where
   pub rest : (k : ℕ) → n ≤ k → getD new k 0 ≡ getD old k 0
   pub long : length new ≡ length old
 
@@ -46,10 +54,10 @@ pub record Zeros (n : ℕ) (t : List ℕ) : Type 0 where
 abbrev pub parentOf : List Branch → ℕ → ℕ
 parentOf bs i = holder bs i (branch bs i .cut)
 
--- the byte of a branch: 1 where a reclaim to the floor m keeps it
-abbrev pub keptBranch : List Branch → ℕ → ℕ → ℕ → ℕ
-keptBranch bs n m i = bit (wanted bs n m (branch bs i .start))
+-- the byte of a branch that holds one of the moments
+abbrev pub holderByte : List Branch → ℕ → List ℕ → ℕ → ℕ
+holderByte bs n moments i = bit (any (λ t. eqb (holder bs n t) i) moments)
 
--- a table of the parents of n rows
-pub record Parents (bs : List Branch) (n : ℕ) (up : List ℕ) : Type 0 where
-  pub at : (k : ℕ) → k < n → getD up k 0 ≡ parentOf bs k
+-- the byte of a branch in the ancestry of one of the moments
+abbrev pub keptBranch : List Branch → ℕ → List ℕ → ℕ → ℕ
+keptBranch bs n moments i = bit (wanted bs n moments (branch bs i .start))

@@ -3,7 +3,7 @@ use mathlib.Core.Path.{_≡_, refl, ap, sym, _∙_}
 use mathlib.Core.Logic.{_≢_}
 use mathlib.Core.List.{List, [], _∷_, _++_, map, append-assoc, append-nil}
 use mathlib.Core.Bool.{Bool, true, false, cond}
-use Prim.Native.Nat.{ℕ, zero, suc, _+_, _*_, _-_, _≤_, _<_}
+use Prim.Native.Nat.{ℕ, zero, suc, _+_, _-_, _≤_, _<_}
 use native.Mathlib.Omega.{arith}
 use lib.Dec.{leb, eqb}
 use lib.ListN.{length, getD, set, take, drop, replicate, length-append, length-replicate, length-set, length-map}
@@ -14,10 +14,10 @@ use Rattle.model.specs.Store.{zero-record, keep}
 use Rattle.model.proofs.Base.{case}
 use Rattle.model.proofs.Places.{getD-map-lt}
 use Rattle.model.specs.Step.{closedUp, renumbered}
-use Rattle.rows.specs.Rows.{branchRowsOf, recordRowsOf}
+use Rattle.rows.specs.Rows.{branchRowsOf, recordRowsOf, BranchesIn, RecordsIn}
 use Rattle.rows.proofs.Laws.{record-count, branch-count}
 use Rattle.closing.specs.Closed.{marked, keepBy, renamed, ClosedRecords, ClosedBranches}
-use Rattle.model.proofs.ByNumber.{Names}
+use Rattle.model.specs.ByNumber.{Names}
 
 module _ {A : Type 0} where
   keepBy-snoc : (p : ℕ → Bool) (xs : List A) (x : A) → keepBy p (xs ++ (x ∷ [])) ≡ keepBy p xs ++ cond (p (length xs)) (x ∷ []) []
@@ -237,12 +237,12 @@ module _ (p : ℕ → Bool) (rs : List Record) where
             rw (g v l, t, e)
 
 -- what is kept is no more than there was
-pub count-branches : {ms : List ℕ} {n : ℕ} {bt bt′ : List ℕ} {w : ℕ} → ClosedBranches ms n bt bt′ w → n * 3 ≤ length bt → w ≤ n
+pub count-branches : {ms : List ℕ} {n : ℕ} {bt bt′ : List ℕ} {w : ℕ} → ClosedBranches ms n bt bt′ w → BranchesIn n bt → w ≤ n
 count-branches {ms} {n} {bt} c l =
     let n′ : length (take n (branchRowsOf bt)) ≡ n = length-take-le n (branchRowsOf bt) (omega (arith, branch-count bt)) in
     omega (arith, c .count, length-keepBy (marked ms) (take n (branchRowsOf bt)))
 
-pub count-records : {ms : List ℕ} {n : ℕ} {rt rt′ ps ps′ : List ℕ} {w : ℕ} → ClosedRecords ms n rt rt′ ps ps′ w → n * 3 ≤ length rt → w ≤ n
+pub count-records : {ms : List ℕ} {n : ℕ} {rt rt′ ps ps′ : List ℕ} {w : ℕ} → ClosedRecords ms n rt rt′ ps ps′ w → RecordsIn n rt → w ≤ n
 count-records {ms} {n} {rt} c l =
     let n′ : length (take n (recordRowsOf rt)) ≡ n = length-take-le n (recordRowsOf rt) (omega (arith, record-count rt)) in
     omega (arith, c .count, length-keepBy (marked ms) (take n (recordRowsOf rt)))

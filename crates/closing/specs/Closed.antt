@@ -8,7 +8,7 @@ use lib.ListN.{length, getD, take}
 use Rattle.model.specs.declared.Record.{Record}
 use Rattle.model.specs.Store.{zero-branch, zero-record}
 use Rattle.model.specs.Step.{closedUp}
-use Rattle.rows.specs.Rows.{branchRowsOf, recordRowsOf}
+use Rattle.rows.specs.Rows.{branchRowsOf, recordRowsOf, BranchesLaid, RecordsLaid}
 
 -- a row is marked: its byte is 1
 abbrev pub marked : List ℕ → ℕ → Bool
@@ -26,13 +26,11 @@ renamed p rs (suc i) = cond (p i) (suc (length (keepBy p (take i rs)))) 0
 
 -- of n records in the table rt, with the place rows ps, the marked ones close up in order: w are kept, rt′ and ps′ are left
 pub record ClosedRecords (ms : List ℕ) (n : ℕ) (rt rt′ ps ps′ : List ℕ) (w : ℕ) : Type 0 where
-  pub rows : recordRowsOf rt′ ≡ closedUp zero-record (keepBy (marked ms) (take n (recordRowsOf rt))) n (recordRowsOf rt)
+  pub table : RecordsLaid rt (closedUp zero-record (keepBy (marked ms) (take n (recordRowsOf rt))) n (recordRowsOf rt)) rt′
   pub places : ps′ ≡ map (renamed (marked ms) (take n (recordRowsOf rt))) ps
   pub count : w ≡ length (keepBy (marked ms) (take n (recordRowsOf rt)))
-  pub long : length rt′ ≡ length rt
 
 -- of n branches in the table bt the marked ones close up in order: w are kept, bt′ is left
 pub record ClosedBranches (ms : List ℕ) (n : ℕ) (bt bt′ : List ℕ) (w : ℕ) : Type 0 where
-  pub rows : branchRowsOf bt′ ≡ closedUp zero-branch (keepBy (marked ms) (take n (branchRowsOf bt))) n (branchRowsOf bt)
+  pub table : BranchesLaid bt (closedUp zero-branch (keepBy (marked ms) (take n (branchRowsOf bt))) n (branchRowsOf bt)) bt′
   pub count : w ≡ length (keepBy (marked ms) (take n (branchRowsOf bt)))
-  pub long : length bt′ ≡ length bt

@@ -6,6 +6,7 @@ use native.Mathlib.Omega.{arith}
 use lib.Dec.{eqb}
 use lib.ListN.{length, getD, set, replicate, length-replicate, length-set, getD-replicate}
 use lib.Seq.{ext-getD, getD-set-same, getD-set-other}
+use Rattle.rows.specs.Rows.{zeros}
 use borrow.Author.Tests.{eqb-true, eqb-false}
 use Rattle.model.proofs.Base.{case}
 
@@ -29,7 +30,8 @@ cleared-next {t} {u} {i} k l =
           (λ e. getD-set-other u i j 0 0 (eqb-false j i e) ∙ k .zeros j (omega (arith, eqb-false j i e)));
     }
 
-pub cleared-end : {t u : List ℕ} {i : ℕ} → Cleared t u i → length u ≤ i → u ≡ replicate (length t) 0
+pub cleared-end : {t u : List ℕ} {i : ℕ} → Cleared t u i → length u ≤ i → u ≡ zeros (length t)
+unfolding zeros
 cleared-end {t} {u} {i} k l =
     ext-getD 0 u (replicate (length t) 0) (k .long ∙ sym (length-replicate (length t) 0))
     (λ j h. k .zeros j (omega arith) ∙ sym (getD-replicate (length t) j 0 0 (omega (arith, k .long))))

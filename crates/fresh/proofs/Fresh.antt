@@ -1,114 +1,90 @@
 -- What is lent and cleared, with the first branch set, is the fresh store.
-use mathlib.Core.Path.{_≡_, refl, sym, ap, _∙_}
+use mathlib.Core.Path.{_≡_, refl, sym, _∙_}
 use mathlib.Core.List.{List}
-use mathlib.Core.Bool.{Bool, true, false}
-use Prim.Native.Nat.{ℕ, _/_}
+use mathlib.Core.Bool.{true, false}
+use Prim.Native.Nat.{ℕ, _%_}
 use native.Mathlib.Omega.{arith}
-use lib.ListN.{length, set, replicate, length-replicate, length-set}
+use lib.ListN.{length, set, replicate}
 use Rattle.model.specs.declared.Head.{Head}
-use Rattle.model.specs.Store.{Store, open-end, zero-branch, zero-record}
+use Rattle.model.specs.Store.{open-end, zero-branch, zero-record}
 use Rattle.model.specs.Fresh.{freshCheck, fresh, madeFresh}
 use Rattle.model.proofs.Base.{case}
-use Rattle.rows.specs.Rows.{branchRowsOf, recordRowsOf, branchTable, recordTable}
-use Rattle.rows.specs.View.{storeOf, WholeRows}
-use Rattle.rows.proofs.Laws.{branch-kind, record-kind, branch-count, record-count, relaid-own, relaid-rows, zero-rows}
-use Rattle.soundness.specs.Check.{allowedOf}
+use Rattle.rows.specs.Rows.{zeros, rowsBy, relaid, branchRowsOf, recordRowsOf, BranchSet}
+use Rattle.rows.specs.View.{Tables, tables, storeOf}
+use Rattle.rows.proofs.Laws.{Kind, branch-kind, record-kind, branch-count, record-count, relaid-own, length-zeros, zero-rows}
+use Rattle.rows.proofs.Relaid.{relaid-whole, set-length, set-rows}
+use Rattle.rows.proofs.View.{SameLengths, laid-self, laid-store}
+use Rattle.soundness.specs.Check.{allowedIn}
+use Rattle.soundness.proofs.Sizes.{WholeRows}
 use Rattle.soundness.proofs.Checked.{allowed-whole, allowed-sizes}
 use Rattle.fresh.specs.declared.Made.{Made}
 use Rattle.fresh.specs.Fresh.{refusalOf, freshOf, Fresh}
-use Rattle.fresh.proofs.Relaid.{relaid-length, rows-relaid}
 
 -- the head of a fresh store
 abbrev pub first : ℕ → Head
 first size = record { size = size; branches = 1; records = 0; now = 0; floor = 0 }
 
-abbrev pub allowed : ℕ → List ℕ → List ℕ → List ℕ → List ℕ → Bool
-allowed size bt rt pt slab = allowedOf size (length bt) (length rt) (length pt) (length slab)
+zeros-are : (n : ℕ) → zeros n ≡ replicate n 0
+unfolding zeros
+zeros-are n = refl
 
-module _ (head : Head) (size : ℕ) (bt rt pt slab : List ℕ) (ok : allowed size bt rt pt slab ≡ true) where
+-- a table of whole rows that has these rows, and any other that is as long with them laid over it
+whole-table : {A : Type 0} (K : Kind A) (t u : List ℕ) → length u ≡ length t → length t % K .width ≡ 0 → (xs : List A) → rowsBy (K .width) (K .make) u ≡ xs
+    → u ≡ relaid (K .width) (K .fields) xs t
+whole-table K t u l e xs h =
+    let d : length u % K .width ≡ 0 = rw l e in
+    sym (relaid-own K u) ∙ (rw h (relaid-whole K u d xs) ∙ sym (relaid-whole K t e xs))
+
+module _ (head : Head) (size : ℕ) (t : Tables) (ok : allowedIn size t ≡ true) where
   -- what is lent becomes the model's fresh store over as many rows
-  pub fresh-is : freshOf head bt rt pt slab size ≡ fresh size (length (branchRowsOf bt)) (length (recordRowsOf rt)) (length pt) slab
+  pub fresh-is : freshOf head t size ≡ fresh size (length (branchRowsOf (t .branches))) (length (recordRowsOf (t .records))) (length (t .places)) (t .slab)
   unfolding freshOf madeFresh
-  fresh-is = rw (ok, allowed-sizes size bt rt (length pt) (length slab) ok)
+  fresh-is = rw (ok, allowed-sizes size t ok)
 
   -- the model does not refuse it either
-  pub model-accepts : freshCheck (storeOf head bt rt pt slab) size ≡ 0
+  pub model-accepts : freshCheck (storeOf head t) size ≡ 0
   unfolding freshCheck
-  model-accepts = rw (allowed-sizes size bt rt (length pt) (length slab) ok)
+  model-accepts = rw (allowed-sizes size t ok)
 
-module _ {head : Head} {size : ℕ} {bt rt pt slab : List ℕ} where
+module _ {head : Head} {size : ℕ} {t : Tables} where
   -- a refusal: nothing changes
-  pub refused : allowed size bt rt pt slab ≡ false → Fresh head size bt rt pt slab (record { head = head; refusal = 1 }) bt rt pt
+  pub refused : allowedIn size t ≡ false → Fresh head size t (record { head = head; refusal = 1 }) t
   unfolding refusalOf freshOf
-  refused e =
-      record {
-        refusal = rw e;
-        head = rw e;
-        branches = rw e (sym (relaid-own branch-kind bt));
-        records = rw e (sym (relaid-own record-kind rt));
-        places = rw e;
-      }
+  refused e = record { refusal = rw e; head = rw e; tables = rw e (laid-self head t) }
 
   -- tables that are cleared, with the first branch set
-  pub made : {bt′ rt′ pt′ : List ℕ} → allowed size bt rt pt slab ≡ true
-      → branchRowsOf bt′ ≡ set (branchRowsOf (replicate (length bt) 0)) 0 (record { start = 0; end = open-end; cut = 0 })
-      → length bt′ ≡ length bt → rt′ ≡ replicate (length rt) 0 → pt′ ≡ replicate (length pt) 0
-      → Fresh head size bt rt pt slab (record { head = first size; refusal = 0 }) bt′ rt′ pt′
+  made : {bt′ : List ℕ} → allowedIn size t ≡ true → BranchSet (zeros (length (t .branches))) 0 (record { start = 0; end = open-end; cut = 0 }) bt′
+      → Fresh head size t (record { head = first size; refusal = 0 }) (tables bt′ (zeros (length (t .records))) (zeros (length (t .places))) (t .slab))
   unfolding refusalOf fresh
-  made {bt′} {rt′} {pt′} ok eb lb er ep =
-      let w : WholeRows bt rt = allowed-whole size bt rt (length pt) (length slab) ok in
+  made {bt′} ok eb =
+      let w : WholeRows t = allowed-whole size t ok in
+      let lb : length bt′ ≡ length (t .branches) = set-length branch-kind eb ∙ length-zeros (length (t .branches)) in
+      let rb : branchRowsOf bt′ ≡ set (replicate (length (branchRowsOf (t .branches))) zero-branch) 0 (record { start = 0; end = open-end; cut = 0 }) =
+      set-rows branch-kind eb ∙ rw (zero-rows branch-kind zero-branch refl (length (t .branches)), branch-count (t .branches)) in
+      let rr : recordRowsOf (zeros (length (t .records))) ≡ replicate (length (recordRowsOf (t .records))) zero-record =
+      rw (zero-rows record-kind zero-record refl (length (t .records)), record-count (t .records)) in
+      let tb = whole-table branch-kind (t .branches) bt′ lb (w .branches) _ rb in
+      let tr = whole-table record-kind (t .records) (zeros (length (t .records))) (length-zeros (length (t .records))) (w .records) _ rr in
       record {
         refusal = rw ok;
-        head = rw (fresh-is head size bt rt pt slab ok);
-        branches =
-            rw (fresh-is head size bt rt pt slab ok)
-            (relaid-rows branch-kind bt bt′ _ lb (w .branches)
-            (eb ∙ rw (zero-rows branch-kind zero-branch refl (length bt), branch-count bt)));
-        records =
-            rw (fresh-is head size bt rt pt slab ok)
-            (relaid-rows record-kind rt rt′ _ (ap length er ∙ length-replicate (length rt) 0) (w .records)
-            (ap recordRowsOf er ∙ rw (zero-rows record-kind zero-record refl (length rt), record-count rt)));
-        places = rw (fresh-is head size bt rt pt slab ok) ep;
+        head = rw (fresh-is head size t ok);
+        tables = rw (fresh-is head size t ok) (λ i. record { branches = tb i; records = tr i; places = zeros-are (length (t .places)) i; slab = t .slab });
       }
 
--- what a caller learns: where it is not refused, the tables keep their lengths and are the fresh store
-module _ {head : Head} {size : ℕ} {bt rt pt slab : List ℕ} {r : Made} {bt′ rt′ pt′ : List ℕ} (f : Fresh head size bt rt pt slab r bt′ rt′ pt′) where
-  pub accepted : r .refusal ≡ 0 → allowed size bt rt pt slab ≡ true
+  -- the same of tables that are known by equations
+  pub made-by : {z bt′ rt′ pt′ : List ℕ} → allowedIn size t ≡ true → z ≡ zeros (length (t .branches)) → BranchSet z 0 (record { start = 0; end = open-end; cut = 0 }) bt′
+      → rt′ ≡ zeros (length (t .records)) → pt′ ≡ zeros (length (t .places))
+      → Fresh head size t (record { head = first size; refusal = 0 }) (tables bt′ rt′ pt′ (t .slab))
+  made-by ok ez eb er ep = rw (er, ep) (made ok (rw ez at eb))
+
+-- what a caller learns: where it is not refused, the tables are the fresh store
+module _ {head : Head} {size : ℕ} {t : Tables} {r : Made} {t′ : Tables} (f : Fresh head size t r t′) where
+  pub accepted : r .refusal ≡ 0 → allowedIn size t ≡ true
   unfolding refusalOf
   accepted e =
-      case (allowed size bt rt pt slab)
+      case (allowedIn size t)
       (λ a. a)
       (λ a. let z : r .refusal ≡ 1 = f .refusal ∙ rw a in absurd (omega arith))
 
-  module _ (ok : allowed size bt rt pt slab ≡ true) where
-    abbrev made-store : Store
-    made-store = fresh size (length (branchRowsOf bt)) (length (recordRowsOf rt)) (length pt) slab
-
-    branch-rows : length (made-store .branchRows) ≡ length bt / 3
-    unfolding fresh
-    branch-rows = length-set (replicate (length (branchRowsOf bt)) zero-branch) 0 _ ∙ (length-replicate _ zero-branch ∙ branch-count bt)
-
-    record-rows : length (made-store .recordRows) ≡ length rt / 3
-    unfolding fresh
-    record-rows = length-replicate _ zero-record ∙ record-count rt
-
-    branches-laid : bt′ ≡ branchTable (made-store .branchRows) bt
-    branches-laid = f .branches ∙ rw (fresh-is head size bt rt pt slab ok)
-
-    records-laid : rt′ ≡ recordTable (made-store .recordRows) rt
-    records-laid = f .records ∙ rw (fresh-is head size bt rt pt slab ok)
-
-    pub made-lengths : (length bt′ ≡ length bt) × (length rt′ ≡ length rt)
-    made-lengths = (
-      ap length branches-laid ∙ relaid-length branch-kind bt _ branch-rows,
-      ap length records-laid ∙ relaid-length record-kind rt _ record-rows,
-    )
-
-    pub store-made : storeOf (r .head) bt′ rt′ pt′ slab ≡ made-store
-    unfolding fresh
-    store-made =
-        let eh : r .head ≡ made-store .head = f .head ∙ rw (fresh-is head size bt rt pt slab ok) in
-        let eb : branchRowsOf bt′ ≡ made-store .branchRows = rw branches-laid (rows-relaid branch-kind bt _ branch-rows) in
-        let er : recordRowsOf rt′ ≡ made-store .recordRows = rw records-laid (rows-relaid record-kind rt _ record-rows) in
-        let ep : pt′ ≡ made-store .placeRows = f .places ∙ rw (fresh-is head size bt rt pt slab ok) in
-        λ k. record { head = eh k; branchRows = eb k; recordRows = er k; placeRows = ep k; slab = slab }
+  pub store-made : SameLengths t t′ → storeOf (r .head) t′ ≡ freshOf head t size
+  store-made k = laid-store (freshOf head t size) (f .tables) k (f .head)

@@ -1,8 +1,11 @@
 // Making a fresh store over what is lent.
 use model::Branch;
 use model::Head;
+use model::OPEN_END;
 ghost use mathlib.Core.Path.{_≡_};
-ghost use lib.ListN.{length, replicate};
+ghost use lib.ListN.{length};
+ghost use Rattle.rows.specs.Rows.{zeros};
+ghost use Rattle.rows.specs.View.{tables};
 ghost use Rattle.fresh.specs.Fresh.{Fresh};
 
 // The head of the fresh store with 0, or the head as it was with the refusal.
@@ -11,8 +14,9 @@ pub struct Made {
     pub refusal: u32,
 }
 
+// A table becomes zeros.
 fn clear(t: &mut [u32])
-    ensures { λ _. ⌜ now (t .exit) ≡ replicate (length (now (t .entry))) 0 ⌝ }
+    ensures { λ _. ⌜ now (t .exit) ≡ zeros (length (now (t .entry))) ⌝ }
 {
     let mut i: usize = 0;
     while i < t.len() {
@@ -30,7 +34,7 @@ pub fn make(
     pt: &mut [u32],
     slab: &[u8],
 ) -> Made
-    ensures { λ r. ⌜ Fresh head size (now (bt .entry)) (now (rt .entry)) (now (pt .entry)) (now (slab .entry)) r (now (bt .exit)) (now (rt .exit)) (now (pt .exit)) ⌝ }
+    ensures { λ r. ⌜ Fresh head size (tables (now (bt .entry)) (now (rt .entry)) (now (pt .entry)) (now (slab .entry))) r (tables (now (bt .exit)) (now (rt .exit)) (now (pt .exit)) (now (slab .entry))) ⌝ }
 {
     let allowed = soundness::sizes_allowed(size, bt.len(), rt.len(), pt.len(), slab.len());
     if !allowed {
@@ -44,7 +48,7 @@ pub fn make(
         0,
         Branch {
             start: 0,
-            end: 4294967295,
+            end: OPEN_END,
             cut: 0,
         },
     );

@@ -1,118 +1,96 @@
 -- Areas of bytes and the store that they hold.
-use mathlib.Core.Path.{_≡_, refl, sym, ap, _∙_}
+use mathlib.Core.Path.{_≡_, sym, ap, _∙_}
 use mathlib.Core.List.{List}
 use mathlib.Core.Bool.{true}
-use Prim.Native.Nat.{ℕ, _*_, _/_, _%_, _≤_, _<_}
+use Prim.Native.Nat.{ℕ, _*_, _/_, _≤_}
 use native.Mathlib.Omega.{arith}
-use lib.ListN.{length, getD, take, drop, length-append, length-drop}
+use lib.ListN.{length, take}
 use lib.Seq.{length-take-le}
 use Rattle.model.specs.Store.{Store}
-use Rattle.rows.specs.Rows.{flat, relaid, branchFields, branchRowsOf, branchTable, recordFields, recordRowsOf, recordTable}
-use Rattle.rows.specs.View.{WholeRows}
-use Rattle.rows.proofs.Laws.{branch-kind, record-kind, relaid-own}
-use Rattle.fresh.proofs.Relaid.{rows-relaid}
-use Rattle.tables.specs.Numbers.{numbersOf, bytesOf, Written, headNumbers, headOf}
-use Rattle.tables.specs.Tables.{Room}
-use Rattle.tables.proofs.Spelling.{length-spelled, flat-length}
-use Rattle.tables.proofs.RoundTrip.{bytes-numbers, bytes-head}
+use Rattle.rows.specs.Rows.{zeros, branchWidth, recordWidth}
+use Rattle.rows.specs.View.{Tables, tables, numberTables, withSlab, laid}
+use Rattle.rows.proofs.Laws.{length-zeros}
+use Rattle.rows.proofs.View.{SameLengths, laid-store}
+use Rattle.soundness.specs.Check.{wholeTables}
+use Rattle.soundness.proofs.Sizes.{WholeRows, →whole}
+use Rattle.tables.specs.Numbers.{numbersOf, Written, headNumbers, headOf}
+use Rattle.tables.specs.Tables.{numbersIn, Room, Saved}
+use Rattle.tables.proofs.Spelling.{length-spelled}
 use Rattle.tables.proofs.Laws.{Lengths, lengths→}
-use Rattle.kizmoolet.specs.Lent.{Lent, lent, fits, storeIn, withStore, Stored}
+use Rattle.kizmoolet.specs.Lent.{Lent, fits, storeIn, withStore}
 
--- head and tables hold bytes
-pub record Bytes (l : Lent) : Type 0 where
-  pub head : (k : ℕ) → getD (l .head) k 0 < 256
-  pub branches : (k : ℕ) → getD (l .branches) k 0 < 256
-  pub records : (k : ℕ) → getD (l .records) k 0 < 256
-  pub places : (k : ℕ) → getD (l .places) k 0 < 256
+-- four bytes a number
+pub length-numbers : (bs : List ℕ) → length (numbersOf bs) ≡ length bs / 4
+length-numbers bs = length-spelled 4 (omega arith) bs
 
-module _ (l : Lent) (fit : fits l ≡ true) where
-  lengths : Lengths (length (l .head)) (length (l .branches)) (length (l .records)) (length (l .places))
-  lengths = lengths→ fit
+pub lengths-of : (l : Lent) → fits l ≡ true → Lengths (length (l .head)) (length (l .tables .branches)) (length (l .tables .records)) (length (l .tables .places))
+lengths-of l fit = lengths→ fit
 
-  -- the tables are whole rows
-  pub fit-whole : WholeRows (numbersOf (l .branches)) (numbersOf (l .records))
-  fit-whole =
-      let four : 0 < 4 = omega arith in
+-- tables that fit are whole rows
+pub fit-whole : (l : Lent) → fits l ≡ true → WholeRows (numbersIn (l .tables))
+fit-whole l fit =
+    record {
+      branches = omega (arith, length-numbers (l .tables .branches), lengths-of l fit .branches);
+      records = omega (arith, length-numbers (l .tables .records), lengths-of l fit .records);
+    }
+
+pub fit-tables : (l : Lent) → fits l ≡ true → wholeTables (numbersIn (l .tables)) ≡ true
+fit-tables l fit = →whole (numbersIn (l .tables)) (fit-whole l fit)
+
+-- tables of bytes as long as others spell tables of numbers as long
+pub same-numbers : (b b′ : Tables) → length (b′ .branches) ≡ length (b .branches) → length (b′ .records) ≡ length (b .records) → SameLengths (numbersIn b) (numbersIn b′)
+same-numbers b b′ lb lr =
+    record {
+      branches = length-numbers (b′ .branches) ∙ (ap (λ (n : ℕ). n / 4) lb ∙ sym (length-numbers (b .branches)));
+      records = length-numbers (b′ .records) ∙ (ap (λ (n : ℕ). n / 4) lr ∙ sym (length-numbers (b .records)));
+    }
+
+-- head and tables that a store was written to, with its slab
+module _ (l : Lent) (s : Store) {h′ : List ℕ} {b′ : Tables} (eh : Written (headNumbers (s .head)) h′) (t : Saved (laid s (numbersIn (l .tables))) b′) (es : b′ .slab ≡ s .slab) where
+  pub stored-is : _≡_ {A = Lent} (record { head = h′; tables = b′ }) (withStore l s)
+  stored-is =
+      λ j.
       record {
-        branches = omega (arith, length-spelled 4 four (l .branches), lengths .branches);
-        records = omega (arith, length-spelled 4 four (l .records), lengths .records);
+        head = eh .bytes j;
+        tables = record { branches = t .branches .bytes j; records = t .records .bytes j; places = t .places .bytes j; slab = es j };
       }
 
-  -- the store that the areas hold, put into them: nothing changes
-  pub store-own : Bytes l → withStore l (storeIn l) ≡ l
-  store-own h =
-      let eh : bytesOf (headNumbers (headOf (numbersOf (l .head)))) ≡ l .head = bytes-head (l .head) (lengths .head) (h .head) in
-      let eb : withStore l (storeIn l) .branches ≡ l .branches =
-      ap bytesOf (relaid-own branch-kind (numbersOf (l .branches))) ∙ bytes-numbers (l .branches) (omega (arith, lengths .branches)) (h .branches) in
-      let er : withStore l (storeIn l) .records ≡ l .records =
-      ap bytesOf (relaid-own record-kind (numbersOf (l .records))) ∙ bytes-numbers (l .records) (omega (arith, lengths .records)) (h .records) in
-      let ep : bytesOf (numbersOf (l .places)) ≡ l .places = bytes-numbers (l .places) (lengths .places) (h .places) in
-      λ j. record { head = eh j; branches = eb j; records = er j; places = ep j; slab = l .slab }
-
--- rows laid over a table of whole rows of three that stays as long are as many as its rows
-many-rows : {A : Type 0} (f : A → List ℕ) → ((x : A) → length (f x) ≡ 3) → (xs : List A) (t : List ℕ) → length t % 3 ≡ 0
-    → length (relaid 3 f xs t) ≡ length t → length xs ≡ length t / 3
-many-rows f three xs t e l =
-    let rest : List ℕ = drop (length t / 3 * 3) t in
-    omega (arith, length-append (flat f xs) rest, flat-length f 3 three xs, length-drop (length t / 3 * 3) t)
-
-module _ (l : Lent) (fit : fits l ≡ true) (s : Store) {h′ b′ r′ p′ sl′ : List ℕ} (eh : Written (headNumbers (s .head)) h′)
-    (t : Stored s (l .branches) (l .records) b′ r′ p′) (es : sl′ ≡ s .slab)
-  where
-    -- head and tables that a store was written to, with its slab
-    pub stored-is : lent h′ b′ r′ p′ sl′ ≡ withStore l s
-    stored-is =
-        λ j.
-        record {
-          head = eh .bytes j;
-          branches = t .branches .bytes j;
-          records = t .records .bytes j;
-          places = t .places .bytes j;
-          slab = es j;
-        }
-
-    -- they hold that store
-    pub stored-again : length b′ ≡ length (l .branches) → length r′ ≡ length (l .records) → storeIn (lent h′ b′ r′ p′ sl′) ≡ s
-    stored-again lb lr =
-        let four : 0 < 4 = omega arith in
-        let whole : WholeRows (numbersOf (l .branches)) (numbersOf (l .records)) = fit-whole l fit in
-        let nb : length (branchTable (s .branchRows) (numbersOf (l .branches))) ≡ length (numbersOf (l .branches)) =
-        sym (ap length (t .branches .again)) ∙ (length-spelled 4 four b′ ∙ (ap (λ (n : ℕ). n / 4) lb ∙ sym (length-spelled 4 four (l .branches)))) in
-        let nr : length (recordTable (s .recordRows) (numbersOf (l .records))) ≡ length (numbersOf (l .records)) =
-        sym (ap length (t .records .again)) ∙ (length-spelled 4 four r′ ∙ (ap (λ (n : ℕ). n / 4) lr ∙ sym (length-spelled 4 four (l .records)))) in
-        let eb : branchRowsOf (numbersOf b′) ≡ s .branchRows =
-        ap branchRowsOf (t .branches .again)
-        ∙ rows-relaid branch-kind (numbersOf (l .branches)) (s .branchRows)
-        (many-rows branchFields (λ x. refl) (s .branchRows) (numbersOf (l .branches)) (whole .branches) nb) in
-        let er : recordRowsOf (numbersOf r′) ≡ s .recordRows =
-        ap recordRowsOf (t .records .again)
-        ∙ rows-relaid record-kind (numbersOf (l .records)) (s .recordRows)
-        (many-rows recordFields (λ x. refl) (s .recordRows) (numbersOf (l .records)) (whole .records) nr) in
-        let e : headOf (numbersOf h′) ≡ s .head = ap headOf (eh .again) in
-        λ j. record { head = e j; branchRows = eb j; recordRows = er j; placeRows = t .places .again j; slab = es j }
+  -- they hold that store
+  pub stored-again : length (b′ .branches) ≡ length (l .tables .branches) → length (b′ .records) ≡ length (l .tables .records) → storeIn (record { head = h′; tables = b′ }) ≡ s
+  stored-again lb lr =
+      let e : numbersIn b′ ≡ laid s (numbersIn (l .tables)) =
+      λ j. record { branches = t .branches .again j; records = t .records .again j; places = t .places .again j; slab = es j } in
+      laid-store s e (same-numbers (l .tables) b′ lb lr) (ap headOf (eh .again))
 
 -- the local arrays have room for tables that fit
-module _ {h b r p : ℕ} (l : Lengths h b r p) {n : ℕ} where
-  pub branches-fit : n ≡ 12288 → b / 4 ≤ n
-  branches-fit e = omega (arith, l .branches-most)
+module _ {h b r p : ℕ} (l : Lengths h b r p) where
+  pub branches-fit : (bt : List ℕ) → bt ≡ zeros (4096 * branchWidth) → b / 4 ≤ length bt
+  branches-fit bt e = omega (arith, l .branches-most, ap length e, length-zeros (4096 * branchWidth))
 
-  pub records-fit : n ≡ 196608 → r / 4 ≤ n
-  records-fit e = omega (arith, l .records-most)
+  pub records-fit : (rt : List ℕ) → rt ≡ zeros (65536 * recordWidth) → r / 4 ≤ length rt
+  records-fit rt e = omega (arith, l .records-most, ap length e, length-zeros (65536 * recordWidth))
 
-  pub places-fit : n ≡ 65536 → p / 4 ≤ n
-  places-fit e = omega (arith, l .places-most)
+  pub places-fit : (pt : List ℕ) → pt ≡ zeros 65536 → p / 4 ≤ length pt
+  places-fit pt e = omega (arith, l .places-most, ap length e, length-zeros 65536)
 
 -- their first numbers, as many as the bytes of the tables spell
-pub room-of : {h b r p : ℕ} (bt rt pt : List ℕ) → Lengths h b r p → length bt ≡ 12288 → length rt ≡ 196608 → length pt ≡ 65536
-    → Room b r p (length (take (b / 4) bt)) (length (take (r / 4) rt)) (length (take (p / 4) pt))
-room-of {b} {r} {p} bt rt pt l eb er ep =
+pub room-of : {h : ℕ} (b r p bt rt pt : List ℕ) → Lengths h (length b) (length r) (length p) → bt ≡ zeros (4096 * branchWidth) → rt ≡ zeros (65536 * recordWidth) → pt ≡ zeros 65536
+    → Room (numberTables b r p) (numberTables (take (length b / 4) bt) (take (length r / 4) rt) (take (length p / 4) pt))
+room-of b r p bt rt pt l eb er ep =
     record {
-      branches = omega (arith, length-take-le (b / 4) bt (branches-fit l eb), l .branches);
-      records = omega (arith, length-take-le (r / 4) rt (records-fit l er), l .records);
-      places = omega (arith, length-take-le (p / 4) pt (places-fit l ep), l .places);
+      branches = omega (arith, length-take-le (length b / 4) bt (branches-fit l bt eb), l .branches);
+      records = omega (arith, length-take-le (length r / 4) rt (records-fit l rt er), l .records);
+      places = omega (arith, length-take-le (length p / 4) pt (places-fit l pt ep), l .places);
     }
 
 -- room stays room while the lengths stay
-pub room-kept : {b r p bt rt pt bt₁ rt₁ pt₁ bt₂ rt₂ pt₂ : ℕ} → Room b r p bt rt pt → bt₁ ≡ bt → rt₁ ≡ rt → pt₁ ≡ pt
-    → bt₂ ≡ bt₁ → rt₂ ≡ rt₁ → pt₂ ≡ pt₁ → Room b r p bt₂ rt₂ pt₂
-room-kept x a b c d e f = omega arith
+pub room-kept : {b t u : Tables} → Room b t → length (u .branches) ≡ length (t .branches) → length (u .records) ≡ length (t .records) → length (u .places) ≡ length (t .places) → Room b u
+room-kept x eb er ep = record { branches = omega (arith, x .branches); records = omega (arith, x .records); places = omega (arith, x .places) }
+
+-- what was written does not depend on the slab
+pub saved-slab : {t b : Tables} (st sb : List ℕ) → Saved t b → Saved (withSlab st t) (withSlab sb b)
+saved-slab st sb s = record { branches = s .branches; records = s .records; places = s .places }
+
+-- nor does room
+pub room-slab : {b t : Tables} (sb st : List ℕ) → Room b t → Room (withSlab sb b) (withSlab st t)
+room-slab sb st r = record { branches = r .branches; records = r .records; places = r .places }

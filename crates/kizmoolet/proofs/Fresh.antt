@@ -1,8 +1,9 @@
 -- Making a fresh store in areas of bytes.
-use mathlib.Core.Path.{_≡_, refl, sym, ap, ap₂, _∙_}
+use mathlib.Core.Path.{_≡_, sym, ap, _∙_}
 use mathlib.Core.List.{List}
-use mathlib.Core.Bool.{Bool, true, false}
+use mathlib.Core.Bool.{true, false}
 use Prim.Native.Nat.{ℕ}
+use native.Mathlib.Omega.{arith}
 use lib.ListN.{length}
 use Rattle.model.specs.declared.Head.{Head}
 use Rattle.model.specs.Store.{Store}
@@ -10,17 +11,20 @@ use Rattle.model.specs.Soundness.{sizesAllowed}
 use Rattle.model.specs.Fresh.{freshCheck, fresh, madeFresh}
 use Rattle.model.proofs.Base.{case, absurd-test}
 use Rattle.rows.specs.Rows.{branchRowsOf, recordRowsOf}
-use Rattle.soundness.specs.Check.{wholeRows, allowedOf}
-use Rattle.soundness.proofs.Sizes.{→whole}
-use Rattle.soundness.proofs.Checked.{allowed-rows}
+use Rattle.rows.specs.View.{Tables, laid}
+use Rattle.rows.proofs.Laws.{branch-kind, record-kind, branch-count, record-count}
+use Rattle.rows.proofs.Relaid.{relaid-whole}
+use Rattle.soundness.specs.Check.{allowedOf, allowedIn}
+use Rattle.soundness.proofs.Sizes.{WholeRows}
+use Rattle.soundness.proofs.Checked.{allowed-rows, allowed-whole}
 use Rattle.fresh.specs.declared.Made.{Made}
 use Rattle.fresh.specs.Fresh.{refusalOf, freshOf, Fresh}
 use Rattle.fresh.proofs.Fresh.{fresh-is, model-accepts}
 use Rattle.tables.specs.Numbers.{numbersOf, Written, headNumbers, headOf}
-use Rattle.tables.specs.Tables.{Loaded, Saved}
-use Rattle.kizmoolet.specs.Lent.{Lent, lent, fits, storeIn, withStore}
-use Rattle.kizmoolet.specs.Fresh.{freshLeft, freshBytes, FreshDone, FreshTables}
-use Rattle.kizmoolet.proofs.Areas.{Bytes, fit-whole, store-own, stored-is, stored-again}
+use Rattle.tables.specs.Tables.{numbersIn, Room, Saved}
+use Rattle.kizmoolet.specs.Lent.{Lent, fits, storeIn, withStore}
+use Rattle.kizmoolet.specs.Fresh.{freshLeft, freshBytes, FreshDone, FreshSaved}
+use Rattle.kizmoolet.proofs.Areas.{length-numbers, fit-tables, stored-is, stored-again}
 
 -- lengths that do not fit
 pub fresh-unfit : (size : ℕ) (l : Lent) → fits l ≡ false → FreshDone size l (freshLeft 1 l)
@@ -31,83 +35,113 @@ module _ (size : ℕ) (l : Lent) (fit : fits l ≡ true) where
   abbrev first : Head
   first = headOf (numbersOf (l .head))
 
-  abbrev nb : List ℕ
-  nb = numbersOf (l .branches)
-
-  abbrev nr : List ℕ
-  nr = numbersOf (l .records)
-
-  abbrev np : List ℕ
-  np = numbersOf (l .places)
-
-  abbrev allowed : Bool
-  allowed = allowedOf size (length nb) (length nr) (length np) (length (l .slab))
+  abbrev T : Tables
+  T = numbersIn (l .tables)
 
   -- accepted
-  made : allowed ≡ true → freshLeft 0 (withStore l (freshOf first nb nr np (l .slab) size)) ≡ freshBytes size l
-  unfolding freshBytes freshOf
-  made ok =
-      let e : freshCheck (storeIn l) size ≡ 0 = model-accepts first size nb nr np (l .slab) ok in
-      rw (fit, e, ok)
+  made-is : allowedIn size T ≡ true → freshOf first T size ≡ madeFresh (storeIn l) size
+  unfolding freshOf
+  made-is ok = rw ok
 
-  slab-stays : allowed ≡ true → l .slab ≡ freshOf first nb nr np (l .slab) size .slab
+  made-bytes : allowedIn size T ≡ true → freshBytes size l ≡ freshLeft 0 (withStore l (madeFresh (storeIn l) size))
+  unfolding freshBytes
+  made-bytes ok = let e : freshCheck (storeIn l) size ≡ 0 = model-accepts first size T ok in rw (fit, e)
+
+  slab-stays : allowedIn size T ≡ true → l .tables .slab ≡ madeFresh (storeIn l) size .slab
   unfolding fresh
-  slab-stays ok = sym (ap (λ (s : Store). s .slab) (fresh-is first size nb nr np (l .slab) ok))
+  slab-stays ok = sym (ap (λ (s : Store). s .slab) (sym (made-is ok) ∙ fresh-is first size T ok))
 
   -- refused
-  not-allowed : allowed ≡ false → sizesAllowed size (length (branchRowsOf nb)) (length (recordRowsOf nr)) (length np) (length (l .slab)) ≡ false
-  not-allowed e =
-      let w : wholeRows (length nb) (length nr) ≡ true = →whole nb nr (fit-whole l fit) in
-      rw w at (sym (allowed-rows size nb nr (length np) (length (l .slab))) ∙ e)
+  not-allowed : allowedIn size T ≡ false → sizesAllowed size (length (branchRowsOf (T .branches))) (length (recordRowsOf (T .records))) (length (T .places)) (length (T .slab)) ≡ false
+  not-allowed e = rw (fit-tables l fit) at (sym (allowed-rows size T) ∙ e)
 
-  not-made : allowed ≡ false → freshLeft 1 l ≡ freshBytes size l
-  unfolding freshBytes freshCheck
-  not-made e = rw (fit, not-allowed e)
+  -- refused: 1, and the areas as they were
+  refused-bytes : allowedIn size T ≡ false → FreshDone size l (freshLeft 1 l)
+  unfolding freshBytes freshCheck madeFresh
+  refused-bytes e = record { all = rw (fit, not-allowed e); store = λ _. rw (not-allowed e) }
 
-  kept : allowed ≡ false → freshOf first nb nr np (l .slab) size ≡ storeIn l
-  unfolding freshOf
-  kept e = rw e
+  module _ {m : Made} {b′ : Tables} (f : FreshSaved size (l .tables) m b′) where
+    pub fresh-refused : (m .refusal ≡ 0 → ⊥) → FreshDone size l (freshLeft (m .refusal) (record { head = l .head; tables = b′ }))
+    unfolding refusalOf
+    fresh-refused ne =
+        case (allowedIn size T)
+        (λ ok. let z : m .refusal ≡ 0 = f .refusal ∙ rw ok in absurd (ne z))
+        (λ no. let o : m .refusal ≡ 1 = f .refusal ∙ rw no in rw (o, f .refused no) (refused-bytes no))
 
-  -- the model's fresh store, in either case
-  fresh-same : (b : Bool) → allowed ≡ b → freshOf first nb nr np (l .slab) size ≡ madeFresh (storeIn l) size
-  unfolding freshOf madeFresh
-  fresh-same true ok = rw ok
-  fresh-same false n = rw (n, not-allowed n)
+    -- made: 0, and the model's store in the areas
+    pub fresh-made : {h′ : List ℕ} → m .refusal ≡ 0 → b′ .slab ≡ l .tables .slab → Written (headNumbers (m .head)) h′
+        → length (b′ .branches) ≡ length (l .tables .branches) → length (b′ .records) ≡ length (l .tables .records)
+        → FreshDone size l (freshLeft 0 (record { head = h′; tables = b′ }))
+    unfolding refusalOf
+    fresh-made {h′} z es e lb lr =
+        case (allowedIn size T)
+        (λ ok. made ok)
+        (λ no. let o : m .refusal ≡ 1 = f .refusal ∙ rw no in absurd (omega arith))
+      where
+        made : allowedIn size T ≡ true → FreshDone size l (freshLeft 0 (record { head = h′; tables = b′ }))
+        made ok =
+            let s : Store = madeFresh (storeIn l) size in
+            let w : Written (headNumbers (s .head)) h′ = rw (f .head ok first, made-is ok) at e in
+            let t : Saved (laid s T) b′ = rw (made-is ok) at (f .tables ok first) in
+            let ss : b′ .slab ≡ s .slab = es ∙ slab-stays ok in
+            record {
+              all = ap (freshLeft 0) (stored-is l s w t ss) ∙ sym (made-bytes ok);
+              store = λ _. stored-again l s w t ss lb lr;
+            }
 
-  pub fresh-left : Bytes l → {h : Head} {m : Made} {h′ b′ r′ p′ : List ℕ} → h ≡ first → FreshTables h size (l .branches) (l .records) (l .places) (l .slab) m b′ r′ p′
-      → Written (headNumbers (m .head)) h′ → length b′ ≡ length (l .branches) → length r′ ≡ length (l .records)
-      → FreshDone size l (freshLeft (m .refusal) (lent h′ b′ r′ p′ (l .slab)))
+-- what is allowed, by the lengths alone
+same-allowed : (size : ℕ) (t u : Tables) → length (u .branches) ≡ length (t .branches) → length (u .records) ≡ length (t .records) → length (u .places) ≡ length (t .places) → u .slab ≡ t .slab
+    → allowedIn size u ≡ allowedIn size t
+same-allowed size t u eb er ep es i = allowedOf size (eb i) (er i) (ep i) (length (es i))
+
+-- a fresh store made in tables as long as those that bytes spell, and written there
+module _ {h₀ : Head} {size : ℕ} {b t t′ : Tables} {m : Made} (es : t .slab ≡ b .slab) (room : Room b t) (f : Fresh h₀ size t m t′) where
+  lb : length (t .branches) ≡ length (numbersOf (b .branches))
+  lb = omega (arith, room .branches, length-numbers (b .branches))
+
+  lr : length (t .records) ≡ length (numbersOf (b .records))
+  lr = omega (arith, room .records, length-numbers (b .records))
+
+  lp : length (t .places) ≡ length (numbersOf (b .places))
+  lp = omega (arith, room .places, length-numbers (b .places))
+
+  pub allowed-same : allowedIn size t ≡ allowedIn size (numbersIn b)
+  allowed-same = same-allowed size (numbersIn b) t lb lr lp es
+
+  refusal-same : m .refusal ≡ refusalOf size (numbersIn b)
   unfolding refusalOf
-  fresh-left bytes {m} {h′} {b′} {r′} {p′} f x e lb lr =
-      let t : FreshTables first size (l .branches) (l .records) (l .places) (l .slab) m b′ r′ p′ = rw f at x in
-      let s : Store = freshOf first nb nr np (l .slab) size in
-      let eh : Written (headNumbers (s .head)) h′ = rw (t .head) at e in
-      let es : l .slab ≡ s .slab = case allowed slab-stays (λ n. sym (ap (λ (y : Store). y .slab) (kept n))) in
-      let a : lent h′ b′ r′ p′ (l .slab) ≡ withStore l s = stored-is l fit s eh (t .tables) es in
-      record {
-        all =
-            case allowed
-            (λ ok.
-            let z : m .refusal ≡ 0 = t .refusal ∙ rw ok in
-            ap₂ freshLeft z a ∙ made ok)
-            (λ n.
-            let z : m .refusal ≡ 1 = t .refusal ∙ rw n in
-            ap₂ freshLeft z (a ∙ (ap (withStore l) (kept n) ∙ store-own l fit bytes)) ∙ not-made n);
-        store = λ _. stored-again l fit s eh (t .tables) es lb lr ∙ fresh-same allowed refl;
-      }
+  refusal-same = f .refusal ∙ rw allowed-same
 
--- numbers that were read, made a fresh store and written back
-pub fresh-tables-are : {h : Head} {size : ℕ} {b r p slab bt rt pt bt′ rt′ pt′ b′ r′ p′ : List ℕ} {m : Made} → Loaded b r p bt rt pt
-    → Fresh h size bt rt pt slab m bt′ rt′ pt′ → Saved bt′ rt′ pt′ b′ r′ p′ → FreshTables h size b r p slab m b′ r′ p′
-fresh-tables-are {h} {size} {b} {r} {p} {slab} {bt} {rt} {pt} {bt′} {rt′} {pt′} {m = m} l f s =
-    let g : Fresh h size (numbersOf b) (numbersOf r) (numbersOf p) slab m bt′ rt′ pt′ = rw (l .branches, l .records, l .places) at f in
-    record {
-      refusal = g .refusal;
-      head = g .head;
-      tables =
-          record {
-            branches = rw (g .branches) at (s .branches);
-            records = rw (g .records) at (s .records);
-            places = rw (g .places) at (s .places);
-          };
-    }
+  module _ (ok : allowedIn size (numbersIn b) ≡ true) (h : Head) where
+    ok′ : allowedIn size t ≡ true
+    ok′ = allowed-same ∙ ok
+
+    store-same : freshOf h₀ t size ≡ freshOf h (numbersIn b) size
+    store-same =
+        let nb : length (branchRowsOf (t .branches)) ≡ length (branchRowsOf (numbersOf (b .branches))) = branch-count (t .branches) ∙ rw (lb, branch-count (numbersOf (b .branches))) in
+        let nr : length (recordRowsOf (t .records)) ≡ length (recordRowsOf (numbersOf (b .records))) = record-count (t .records) ∙ rw (lr, record-count (numbersOf (b .records))) in
+        fresh-is h₀ size t ok′ ∙ ((λ i. fresh size (nb i) (nr i) (lp i) (es i)) ∙ sym (fresh-is h size (numbersIn b) ok))
+
+    head-same : m .head ≡ freshOf h (numbersIn b) size .head
+    head-same = f .head ∙ ap (λ (s : Store). s .head) store-same
+
+    tables-same : t′ ≡ laid (freshOf h (numbersIn b) size) (numbersIn b)
+    tables-same =
+        let s : Store = freshOf h (numbersIn b) size in
+        let w : WholeRows t = allowed-whole size t ok′ in
+        let v : WholeRows (numbersIn b) = allowed-whole size (numbersIn b) ok in
+        let eb = relaid-whole branch-kind (t .branches) (w .branches) (s .branchRows) ∙ sym (relaid-whole branch-kind (numbersOf (b .branches)) (v .branches) (s .branchRows)) in
+        let er = relaid-whole record-kind (t .records) (w .records) (s .recordRows) ∙ sym (relaid-whole record-kind (numbersOf (b .records)) (v .records) (s .recordRows)) in
+        f .tables ∙ (ap (λ (x : Store). laid x t) store-same ∙ (λ i. record { branches = eb i; records = er i; places = s .placeRows; slab = s .slab }))
+
+  pub fresh-kept : {b′ : Tables} → (m .refusal ≡ 0 → ⊥) → b′ ≡ b → FreshSaved size b m b′
+  unfolding refusalOf
+  fresh-kept ne e =
+      let no : allowedIn size (numbersIn b) ≡ true → ⊥ = λ ok. ne (refusal-same ∙ rw ok) in
+      record { refusal = refusal-same; refused = λ _. e; head = λ ok h. absurd (no ok); tables = λ ok h. absurd (no ok) }
+
+  pub fresh-saved : {b′ : Tables} → m .refusal ≡ 0 → Saved t′ b′ → FreshSaved size b m b′
+  unfolding refusalOf
+  fresh-saved {b′} z s =
+      let no : allowedIn size (numbersIn b) ≡ false → ⊥ = λ n. let o : m .refusal ≡ 1 = refusal-same ∙ rw n in omega arith in
+      record { refusal = refusal-same; refused = λ n. absurd (no n); head = head-same; tables = λ ok h. rw (tables-same ok h) at s }

@@ -1,3 +1,5 @@
 pub mod Areas
 pub mod Fresh
 pub mod Batch
+pub mod Holding
+pub mod Demand3

@@ -4,10 +4,16 @@ use mathlib.Core.List.{List}
 use mathlib.Core.Bool.{true, cond}
 use Prim.Native.Nat.{ℕ, zero, suc}
 use lib.ListN.{length}
+use Rattle.model.specs.declared.Head.{Head}
 use Rattle.model.specs.Soundness.{tableCheck}
 use Rattle.model.specs.Batch.{Run, answeredCount, requestCount, answerCount, areaAfter, batch}
+use Rattle.rows.specs.View.{Tables, storeOf, laid}
+use Rattle.soundness.specs.Check.{checkOf}
+use Rattle.tables.specs.Tables.{numbersIn, Saved}
 use Rattle.batch.specs.declared.Done.{Done}
-use Rattle.kizmoolet.specs.Lent.{Lent, fits, storeIn, withStore, Stored}
+use Rattle.kizmoolet.specs.declared.Tried.{Tried}
+use Rattle.kizmoolet.specs.declared.Tried.the-variants.{Refused, Served}
+use Rattle.kizmoolet.specs.Lent.{Lent, fits, storeIn, withStore}
 
 -- what a batch leaves: the stop number, requests answered, the bytes of those requests, the bytes of their answers,
 -- the areas of the store, and the answer area
@@ -45,13 +51,19 @@ pub record BatchDone (l : Lent) (input area : List ℕ) (left : BatchLeft) : Typ
   pub all : left ≡ batchBytes l input area
   pub store : fits l ≡ true → storeIn (left .areas) ≡ batch (storeIn l) input (length area) .store
 
--- a run on tables of bytes b, r and p, a slab and an answer area: what it reports and leaves
-pub record RunTables (run : Run) (b r area : List ℕ) (d : Done) (b′ r′ p′ slab′ area′ : List ℕ) : Type 0 where
+-- a run on tables of bytes b with an answer area: what it reports, and what it leaves in their place
+pub record RunSaved (run : Run) (b : Tables) (area : List ℕ) (d : Done) (b′ : Tables) (area′ : List ℕ) : Type 0 where
   pub stop : d .stop ≡ run .stop
   pub answered : d .answered ≡ answeredCount run
   pub taken : d .taken ≡ requestCount run
   pub sent : d .sent ≡ answerCount run
   pub head : d .head ≡ run .store .head
-  pub tables : Stored (run .store) b r b′ r′ p′
-  pub slab : slab′ ≡ run .store .slab
+  pub tables : Saved (laid (run .store) (numbersIn b)) b′
+  pub slab : b′ .slab ≡ run .store .slab
   pub answers : area′ ≡ areaAfter run area
+
+-- a batch on tables of bytes b: refused by the table checks with nothing changed, or run
+abbrev pub TriedOn : Head → Tables → List ℕ → List ℕ → Tried → Tables → List ℕ → Type 0
+TriedOn h b input area (Refused n) b′ area′ = (n ≡ checkOf h (numbersIn b)) × (n ≡ 0 → ⊥) × (b′ ≡ b) × (area′ ≡ area)
+TriedOn h b input area (Served d) b′ area′ =
+    (checkOf h (numbersIn b) ≡ 0) × RunSaved (batch (storeOf h (numbersIn b)) input (length area)) b area d b′ area′

@@ -1,16 +1,16 @@
 -- Making a fresh store in areas of bytes.
 use mathlib.Core.Path.{_≡_}
-use mathlib.Core.List.{List}
-use mathlib.Core.Bool.{true, cond, _&&_}
+use mathlib.Core.Bool.{true, false, cond, _&&_}
 use Prim.Native.Nat.{ℕ}
 use lib.Dec.{eqb}
-use lib.ListN.{length}
 use Rattle.model.specs.declared.Head.{Head}
 use Rattle.model.specs.Fresh.{freshCheck, madeFresh}
+use Rattle.rows.specs.View.{Tables, laid}
+use Rattle.soundness.specs.Check.{allowedIn}
 use Rattle.fresh.specs.declared.Made.{Made}
 use Rattle.fresh.specs.Fresh.{refusalOf, freshOf}
-use Rattle.tables.specs.Numbers.{numbersOf}
-use Rattle.kizmoolet.specs.Lent.{Lent, fits, storeIn, withStore, Stored}
+use Rattle.tables.specs.Tables.{numbersIn, Saved}
+use Rattle.kizmoolet.specs.Lent.{Lent, fits, storeIn, withStore}
 
 -- what making a fresh store leaves: its result, and the areas
 pub record FreshLeft : Type 0 where
@@ -30,8 +30,9 @@ pub record FreshDone (size : ℕ) (l : Lent) (left : FreshLeft) : Type 0 where
   pub all : left ≡ freshBytes size l
   pub store : fits l ≡ true → storeIn (left .areas) ≡ madeFresh (storeIn l) size
 
--- a fresh store made of tables of bytes b, r and p, for the head h
-pub record FreshTables (h : Head) (size : ℕ) (b r p slab : List ℕ) (m : Made) (b′ r′ p′ : List ℕ) : Type 0 where
-  pub refusal : m .refusal ≡ refusalOf size (length (numbersOf b)) (length (numbersOf r)) (length (numbersOf p)) (length slab)
-  pub head : m .head ≡ freshOf h (numbersOf b) (numbersOf r) (numbersOf p) slab size .head
-  pub tables : Stored (freshOf h (numbersOf b) (numbersOf r) (numbersOf p) slab size) b r b′ r′ p′
+-- a fresh store made of tables of bytes b: refused with nothing changed, or written to them, whatever head they had
+pub record FreshSaved (size : ℕ) (b : Tables) (m : Made) (b′ : Tables) : Type 0 where
+  pub refusal : m .refusal ≡ refusalOf size (numbersIn b)
+  pub refused : allowedIn size (numbersIn b) ≡ false → b′ ≡ b
+  pub head : allowedIn size (numbersIn b) ≡ true → (h : Head) → m .head ≡ freshOf h (numbersIn b) size .head
+  pub tables : allowedIn size (numbersIn b) ≡ true → (h : Head) → Saved (laid (freshOf h (numbersIn b) size) (numbersIn b)) b′

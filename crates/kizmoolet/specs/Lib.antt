@@ -1,3 +1,4 @@
 pub mod Lent
 pub mod Fresh
 pub mod Batch
+pub mod Demand3

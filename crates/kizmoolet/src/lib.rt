@@ -5,17 +5,25 @@ use model::Head;
 ghost use mathlib.Core.Path.{_≡_};
 ghost use mathlib.Core.Bool.{true};
 ghost use lib.ListN.{length};
-ghost use Rattle.tables.specs.Tables.{Room};
+ghost use Rattle.model.specs.ByNumber.{Sound};
+ghost use Rattle.model.specs.Batch.{batch};
+ghost use Rattle.rows.specs.Rows.{zeros};
+ghost use Rattle.rows.specs.View.{tables, numberTables, storeOf};
+ghost use Rattle.soundness.specs.Check.{checkOf};
+ghost use Rattle.tables.specs.Tables.{numbersIn, Room};
 ghost use Rattle.kizmoolet.specs.Lent.{lent, fits};
-ghost use Rattle.tables.specs.Numbers.{numbersOf};
-ghost use Rattle.batch.specs.Batch.{batchOf};
-ghost use Rattle.kizmoolet.specs.Batch.{batchLeft, BatchDone, RunTables};
-ghost use Rattle.kizmoolet.specs.Fresh.{freshLeft, FreshDone, FreshTables};
+ghost use Rattle.kizmoolet.specs.Batch.{batchLeft, BatchDone, RunSaved, TriedOn};
+ghost use Rattle.kizmoolet.specs.Fresh.{freshLeft, FreshDone, FreshSaved};
 
-// A fresh store made of tables of bytes, with room for their numbers.
+// What a batch on tables of bytes came to: refused by the table checks, or carried out.
+pub enum Tried {
+    Refused(u32),
+    Served(Done),
+}
+
+// A fresh store made in tables of zeros and written as bytes; a refusal writes nothing.
 fn fresh_tables(
     size: u32,
-    head: Head,
     branches: &mut [u8],
     records: &mut [u8],
     places: &mut [u8],
@@ -24,11 +32,20 @@ fn fresh_tables(
     rt: &mut [u32],
     pt: &mut [u32],
 ) -> Made
-    requires { ⌜ Room (length (now branches)) (length (now records)) (length (now places)) (length (now bt)) (length (now rt)) (length (now pt)) ⌝ }
-    ensures { λ r. ⌜ FreshTables head size (now (branches .entry)) (now (records .entry)) (now (places .entry)) (now (slab .entry)) r (now (branches .exit)) (now (records .exit)) (now (places .exit)) ⌝ }
+    requires { ⌜ Room (numberTables (now branches) (now records) (now places)) (numberTables (now bt) (now rt) (now pt)) ⌝ }
+    ensures { λ r. ⌜ FreshSaved size (tables (now (branches .entry)) (now (records .entry)) (now (places .entry)) (now (slab .entry))) r (tables (now (branches .exit)) (now (records .exit)) (now (places .exit)) (now (slab .entry))) ⌝ }
 {
-    tables::load(branches, records, places, bt, rt, pt);
-    let made = fresh::make(head, size, bt, rt, pt, slab);
+    let none = Head {
+        size: 0,
+        branches: 0,
+        records: 0,
+        now: 0,
+        floor: 0,
+    };
+    let made = fresh::make(none, size, bt, rt, pt, slab);
+    if made.refusal != 0 {
+        return made;
+    }
     tables::save(bt, rt, pt, branches, records, places);
     made
 }
@@ -48,13 +65,11 @@ fn fresh_areas(
     let nb = branches.len() / 4;
     let nr = records.len() / 4;
     let np = places.len() / 4;
-    let first = tables::get_head(head);
     let mut bt = tables::branch_room();
     let mut rt = tables::record_room();
     let mut pt = tables::place_room();
     let made = fresh_tables(
         size,
-        first,
         branches,
         records,
         places,
@@ -63,12 +78,16 @@ fn fresh_areas(
         &mut rt[..nr],
         &mut pt[..np],
     );
+    let refusal = made.refusal;
+    if refusal != 0 {
+        return refusal;
+    }
     let new = made.head;
     tables::put_head(head, new);
-    made.refusal
+    0
 }
 
-// Makes a fresh store of `size` pages; 1, and nothing changed, where the size or a length is not allowed.
+// Makes a fresh store of `size` pages; 1, and nothing written, where the size or a length is not allowed.
 #[no_mangle]
 pub extern "C" fn kizmoolet_fresh(
     size: u32,
@@ -87,7 +106,49 @@ pub extern "C" fn kizmoolet_fresh(
     fresh_areas(size, head, branches, records, places, slab)
 }
 
-// A batch on tables of bytes, with room for their numbers.
+// The numbers of the tables, and the refusal of the table checks. The areas are only read.
+fn load_checked(
+    head: Head,
+    branches: &[u8],
+    records: &[u8],
+    places: &[u8],
+    slab: &[u8],
+    bt: &mut [u32],
+    rt: &mut [u32],
+    pt: &mut [u32],
+) -> u32
+    requires { ⌜ Room (numberTables (now branches) (now records) (now places)) (numberTables (now bt) (now rt) (now pt)) ⌝ }
+    ensures { λ r. ⌜ r ≡ checkOf head (numbersIn (tables (now (branches .entry)) (now (records .entry)) (now (places .entry)) (now (slab .entry)))) ⌝ }
+    ensures { λ _. ⌜ numberTables (now (bt .exit)) (now (rt .exit)) (now (pt .exit)) ≡ numbersIn (numberTables (now (branches .entry)) (now (records .entry)) (now (places .entry))) ⌝ }
+{
+    tables::load(branches, records, places, bt, rt, pt);
+    soundness::check(head, bt, rt, pt, slab)
+}
+
+// A batch on sound tables, which are those of the areas, and then written there.
+fn run_saved(
+    head: Head,
+    branches: &mut [u8],
+    records: &mut [u8],
+    places: &mut [u8],
+    slab: &mut [u8],
+    input: &[u8],
+    answers: &mut [u8],
+    bt: &mut [u32],
+    rt: &mut [u32],
+    pt: &mut [u32],
+) -> Done
+    requires { ⌜ Room (numberTables (now branches) (now records) (now places)) (numberTables (now bt) (now rt) (now pt)) ⌝ }
+    requires { ⌜ numberTables (now bt) (now rt) (now pt) ≡ numbersIn (numberTables (now branches) (now records) (now places)) ⌝ }
+    requires { ⌜ Sound (storeOf head (tables (now bt) (now rt) (now pt) (now slab))) ⌝ }
+    ensures { λ r. ⌜ RunSaved (batch (storeOf head (numbersIn (tables (now (branches .entry)) (now (records .entry)) (now (places .entry)) (now (slab .entry))))) (now (input .entry)) (length (now (answers .entry)))) (tables (now (branches .entry)) (now (records .entry)) (now (places .entry)) (now (slab .entry))) (now (answers .entry)) r (tables (now (branches .exit)) (now (records .exit)) (now (places .exit)) (now (slab .exit))) (now (answers .exit)) ⌝ }
+{
+    let done = batch::run(head, bt, rt, pt, slab, input, answers);
+    tables::save(bt, rt, pt, branches, records, places);
+    done
+}
+
+// A batch on tables of bytes, with room for their numbers; a refusal writes nothing.
 fn batch_tables(
     head: Head,
     branches: &mut [u8],
@@ -99,17 +160,30 @@ fn batch_tables(
     bt: &mut [u32],
     rt: &mut [u32],
     pt: &mut [u32],
-) -> Done
-    requires { ⌜ Room (length (now branches)) (length (now records)) (length (now places)) (length (now bt)) (length (now rt)) (length (now pt)) ⌝ }
-    ensures { λ r. ⌜ RunTables (batchOf head (numbersOf (now (branches .entry))) (numbersOf (now (records .entry))) (numbersOf (now (places .entry))) (now (slab .entry)) (now (batch .entry)) (length (now (answers .entry)))) (now (branches .entry)) (now (records .entry)) (now (answers .entry)) r (now (branches .exit)) (now (records .exit)) (now (places .exit)) (now (slab .exit)) (now (answers .exit)) ⌝ }
+) -> Tried
+    requires { ⌜ Room (numberTables (now branches) (now records) (now places)) (numberTables (now bt) (now rt) (now pt)) ⌝ }
+    ensures { λ r. ⌜ TriedOn head (tables (now (branches .entry)) (now (records .entry)) (now (places .entry)) (now (slab .entry))) (now (batch .entry)) (now (answers .entry)) r (tables (now (branches .exit)) (now (records .exit)) (now (places .exit)) (now (slab .exit))) (now (answers .exit)) ⌝ }
 {
-    tables::load(branches, records, places, bt, rt, pt);
-    let done = batch::batch(head, bt, rt, pt, slab, batch, answers);
-    tables::save(bt, rt, pt, branches, records, places);
-    done
+    let refusal = load_checked(head, branches, records, places, slab, bt, rt, pt);
+    if refusal != 0 {
+        return Tried::Refused(refusal);
+    }
+    let done = run_saved(
+        head,
+        branches,
+        records,
+        places,
+        slab,
+        batch,
+        answers,
+        bt,
+        rt,
+        pt,
+    );
+    Tried::Served(done)
 }
 
-// A batch on areas of bytes whose lengths fit.
+// A batch on areas of bytes whose lengths fit; a refusal writes nothing.
 fn batch_areas(
     head: &mut [u8],
     branches: &mut [u8],
@@ -129,7 +203,7 @@ fn batch_areas(
     let mut bt = tables::branch_room();
     let mut rt = tables::record_room();
     let mut pt = tables::place_room();
-    let done = batch_tables(
+    let tried = batch_tables(
         first,
         branches,
         records,
@@ -141,9 +215,14 @@ fn batch_areas(
         &mut rt[..nr],
         &mut pt[..np],
     );
-    let last = done.head;
-    tables::put_head(head, last);
-    done
+    match tried {
+        Tried::Refused(n) => batch::report(first, n, 0, 0, 0),
+        Tried::Served(done) => {
+            let last = done.head;
+            tables::put_head(head, last);
+            done
+        }
+    }
 }
 
 // Carries out a batch; the result is the stop number. Always written: the requests answered, the bytes of those requests that were

@@ -2,7 +2,7 @@
 use mathlib.Core.Path.{_≡_, refl, sym, ap, _∙_}
 use mathlib.Core.Bool.{true, false, _&&_}
 use mathlib.Core.List.{List, _++_}
-use Prim.Native.Nat.{ℕ, _*_, _%_, _≤_, _<_}
+use Prim.Native.Nat.{ℕ, _*_, _%_, _<_}
 use native.Mathlib.Nat.{mul-mod-left}
 use native.Mathlib.Omega.{arith}
 use borrow.Author.Tests.{leb-true}
@@ -13,171 +13,164 @@ use Rattle.model.specs.declared.Head.{Head}
 use Rattle.model.specs.declared.Branch.{Branch}
 use Rattle.model.specs.Store.{Store}
 use Rattle.model.specs.Soundness.{sizesAllowed, inRange, tableCheck, between}
-use Rattle.model.specs.Batch.{batch, ended}
+use Rattle.model.specs.Batch.{Run, batch, ended}
 use Rattle.model.specs.Fresh.{freshCheck, madeFresh}
 use Rattle.model.proofs.Base.{case, and→}
-use Rattle.rows.specs.Rows.{branchRowsOf, recordRowsOf, branchTable}
-use Rattle.rows.specs.View.{storeOf}
+use Rattle.rows.specs.Rows.{branchWidth, branchRowsOf, recordRowsOf, BranchesIn}
+use Rattle.rows.specs.View.{Tables, tables, storeOf, laid}
 use Rattle.rows.proofs.Laws.{branch-kind, record-kind, relaid-own}
-use Rattle.soundness.specs.Check.{wholeRows, allowedOf}
+use Rattle.rows.proofs.Relaid.{front-rows}
+use Rattle.soundness.specs.Check.{wholeRows, wholeTables, allowedIn}
 use Rattle.soundness.proofs.Checked.{allowed-rows}
 use Rattle.batch.specs.declared.Done.{Done}
-use Rattle.batch.specs.Batch.{batchOf, Leaves}
+use Rattle.batch.specs.Batch.{batchOf, BatchLeaves as CoreLeaves}
 use Rattle.fresh.specs.declared.Made.{Made}
 use Rattle.fresh.specs.Fresh.{freshOf, refusalOf, Fresh}
-use Rattle.lent.specs.Lent.{lentStore, wholeRecords, lentBatch, lentFresh, lentRefusal, BatchLeaves, FreshLeaves}
-use Rattle.lent.proofs.Loading.{front-rows, relaid-first}
+use Rattle.lent.specs.Lent.{Lent, lent, lentStore, laidOver, wholeRecords, lentBatch, lentFresh, lentRefusal, BatchLeaves, FreshLeaves}
+use Rattle.lent.proofs.Loading.{relaid-first}
 
 -- a fresh store of sizes that are not allowed is not made
 not-made : (s : Store) (size : ℕ) → sizesAllowed size (length (s .branchRows)) (length (s .recordRows)) (length (s .placeRows)) (length (s .slab)) ≡ false → madeFresh s size ≡ s
 unfolding madeFresh
 not-made s size e = rw e
 
+-- what is lent, laid over itself
+laid-itself : (head : Head) (l : Lent) → l ≡ laidOver (lentStore head l) l
+laid-itself head l i = record { branches = l .branches; records = sym (relaid-own record-kind (l .records)) i; places = l .places; slab = l .slab }
+
 -- n rows of a flat table, and what a call on their numbers leaves in the table
-module _ (n : ℕ) (t : List ℕ) (fits : n * 3 ≤ length t) where
+module _ (n : ℕ) (t : List ℕ) (fits : BranchesIn n t) where
   abbrev front : List ℕ
-  front = take (n * 3) t
+  front = take (n * branchWidth) t
 
-  abbrev rows : List Branch
-  rows = take n (branchRowsOf t)
+  abbrev rest : List ℕ
+  rest = drop (n * branchWidth) t
 
-  length-front : length front ≡ n * 3
-  length-front = length-take-le (n * 3) t fits
+  length-front : length front ≡ n * branchWidth
+  length-front = length-take-le (n * branchWidth) t fits
 
-  -- so that the branch rows are whole
-  front-whole : (rt : List ℕ) → wholeRows (length front) (length rt) ≡ wholeRecords rt
-  unfolding wholeRows
-  front-whole rt = let e : length front % 3 ≡ 0 = rw length-front (mul-mod-left n 3) in rw e
+  module _ (rt pt slab : List ℕ) where
+    -- the numbers of the rows with the other tables, and the rows with them
+    abbrev T : Tables
+    T = tables front rt pt slab
 
-  front-store : (head : Head) (rt pt slab : List ℕ) → storeOf head front rt pt slab ≡ lentStore head rows rt pt slab
-  front-store head rt pt slab =
-      ap (λ (r : List Branch). lentStore head r rt pt slab) (front-rows branch-kind n t fits)
+    abbrev L : Lent
+    L = lent (take n (branchRowsOf t)) rt pt slab
 
-  batch-front : (head : Head) (rt pt slab input : List ℕ) (space : ℕ) → batchOf head front rt pt slab input space ≡ lentBatch head rows rt pt slab input space
-  unfolding batchOf lentBatch
-  batch-front head rt pt slab input space = rw (front-whole rt, front-store head rt pt slab)
+    -- the branch rows are whole
+    front-whole : wholeTables T ≡ wholeRecords L
+    unfolding wholeRows
+    front-whole = let e : length front % branchWidth ≡ 0 = rw length-front (mul-mod-left n branchWidth) in rw e
 
-  -- the sizes that are allowed, of the rows
-  front-allowed : (size : ℕ) (rt : List ℕ) (lp ls : ℕ)
-      → allowedOf size (length front) (length rt) lp ls ≡ (wholeRecords rt && sizesAllowed size (length rows) (length (recordRowsOf rt)) lp ls)
-  front-allowed size rt lp ls = allowed-rows size front rt lp ls ∙ rw (front-whole rt, front-rows branch-kind n t fits)
+    front-store : (head : Head) → storeOf head T ≡ lentStore head L
+    front-store head = ap (λ (r : List Branch). lentStore head (lent r rt pt slab)) (front-rows branch-kind n t fits)
 
-  fresh-front : (head : Head) (rt pt slab : List ℕ) (size : ℕ) → freshOf head front rt pt slab size ≡ lentFresh head rows rt pt slab size
-  unfolding freshOf lentFresh
-  fresh-front head rt pt slab size =
-      let s : Store = lentStore head rows rt pt slab in
-      rw (front-store head rt pt slab, front-allowed size rt (length pt) (length slab))
-      (case (wholeRecords rt)
-      (λ e. rw e (case (sizesAllowed size (length rows) (length (recordRowsOf rt)) (length pt) (length slab)) (λ a. rw a) (λ a. rw a (sym (not-made s size a)))))
-      (λ e. rw e))
+    batch-front : (head : Head) (input : List ℕ) (space : ℕ) → batchOf head T input space ≡ lentBatch head L input space
+    unfolding batchOf lentBatch
+    batch-front head input space = rw (front-whole, front-store head)
 
-  refusal-front : (head : Head) (rt pt slab : List ℕ) (size : ℕ) → refusalOf size (length front) (length rt) (length pt) (length slab) ≡ lentRefusal head rows rt pt slab size
-  unfolding refusalOf lentRefusal freshCheck
-  refusal-front head rt pt slab size =
-      rw (front-allowed size rt (length pt) (length slab)) (case (wholeRecords rt) (λ e. rw e) (λ e. rw e))
+    -- the sizes that are allowed, of the rows
+    front-allowed : (size : ℕ) → allowedIn size T ≡ (wholeRecords L && sizesAllowed size (length (L .branches)) (length (recordRowsOf rt)) (length pt) (length slab))
+    front-allowed size = allowed-rows size T ∙ rw (front-whole, front-rows branch-kind n t fits)
 
-  module _ (u : List ℕ) (same : length (u ++ drop (n * 3) t) ≡ length t) where
-    length-back : length u ≡ length front
-    length-back = omega (arith, length-front, length-append u (drop (n * 3) t), length-drop (n * 3) t)
+    fresh-front : (head : Head) (size : ℕ) → freshOf head T size ≡ lentFresh head L size
+    unfolding freshOf lentFresh
+    fresh-front head size =
+        rw (front-store head, front-allowed size)
+        (case (wholeRecords L)
+        (λ e. rw e (case (sizesAllowed size (length (L .branches)) (length (recordRowsOf rt)) (length pt) (length slab)) (λ a. rw a) (λ a. rw a (sym (not-made (lentStore head L) size a)))))
+        (λ e. rw e))
 
-    -- what stands behind the rows
-    pub rest-stays : drop (n * 3) (u ++ drop (n * 3) t) ≡ drop (n * 3) t
-    rest-stays = drop-at u (drop (n * 3) t) (n * 3) (length-back ∙ length-front)
+    refusal-front : (head : Head) (size : ℕ) → refusalOf size T ≡ lentRefusal head L size
+    unfolding refusalOf lentRefusal freshCheck
+    refusal-front head size = rw (front-allowed size) (case (wholeRecords L) (λ e. rw e) (λ e. rw e))
 
-    back : (xs : List Branch) → u ≡ branchTable xs front → take n (branchRowsOf (u ++ drop (n * 3) t)) ≡ xs
-    back xs e = relaid-first branch-kind n front u (drop (n * 3) t) xs length-front length-back e
+    module _ (u : List ℕ) (same : length (u ++ rest) ≡ length t) where
+      length-back : length u ≡ length front
+      length-back = omega (arith, length-front, length-append u rest, length-drop (n * branchWidth) t)
 
-    -- the core's batch on the rows' numbers is the batch on the rows
-    pub batch-back : (head : Head) (rt pt slab input area : List ℕ) (d : Done) (rt′ pt′ slab′ area′ : List ℕ)
-        → Leaves (batchOf head front rt pt slab input (length area)) front rt area d u rt′ pt′ slab′ area′
-        → BatchLeaves (lentBatch head rows rt pt slab input (length area)) rt area (record { stop = d .stop; answered = d .answered; taken = d .taken; sent = d .sent }) (d .head) (take n (branchRowsOf (u ++ drop (n * 3) t))) rt′ pt′ slab′ area′
-    batch-back head rt pt slab input area d rt′ pt′ slab′ area′ l =
-        rw (sym (batch-front head rt pt slab input (length area)))
-        (record {
-          stop = l .stop;
-          answered = l .answered;
-          taken = l .taken;
-          sent = l .sent;
-          head = l .head;
-          branches = back _ (l .branches);
-          records = l .records;
-          places = l .places;
-          slab = l .slab;
-          answers = l .answers;
-        })
+      -- what stands behind the rows
+      pub rest-stays : drop (n * branchWidth) (u ++ rest) ≡ rest
+      rest-stays = drop-at u rest (n * branchWidth) (length-back ∙ length-front)
 
-    -- and so is making a fresh store
-    pub fresh-back : (head : Head) (size : ℕ) (rt pt slab : List ℕ) (m : Made) (rt′ pt′ : List ℕ) → Fresh head size front rt pt slab m u rt′ pt′
-        → FreshLeaves (lentRefusal head rows rt pt slab size) (lentFresh head rows rt pt slab size) rt (m .refusal) (m .head) (take n (branchRowsOf (u ++ drop (n * 3) t))) rt′ pt′
-    fresh-back head size rt pt slab m rt′ pt′ l =
-        rw (sym (fresh-front head rt pt slab size))
-        (record {
-          refusal = l .refusal ∙ refusal-front head rt pt slab size;
-          head = l .head;
-          branches = back _ (l .branches);
-          records = l .records;
-          places = l .places;
-        })
+      -- a store laid over the numbers is laid over the rows
+      back : (s : Store) {rt′ pt′ slab′ : List ℕ} → tables u rt′ pt′ slab′ ≡ laid s T → lent (take n (branchRowsOf (u ++ rest))) rt′ pt′ slab′ ≡ laidOver s L
+      back s e =
+          let b : take n (branchRowsOf (u ++ rest)) ≡ s .branchRows =
+          relaid-first branch-kind n front u rest (s .branchRows) length-front length-back (ap (λ (x : Tables). x .branches) e) in
+          λ i. record { branches = b i; records = e i .records; places = e i .places; slab = e i .slab }
+
+      -- the core's batch on the rows' numbers is the batch on the rows
+      pub batch-back : (head : Head) (input area : List ℕ) {d : Done} {rt′ pt′ slab′ area′ : List ℕ}
+          → CoreLeaves (batchOf head T input (length area)) T area d (tables u rt′ pt′ slab′) area′
+          → BatchLeaves (lentBatch head L input (length area)) L area (record { stop = d .stop; answered = d .answered; taken = d .taken; sent = d .sent }) (d .head) (lent (take n (branchRowsOf (u ++ rest))) rt′ pt′ slab′) area′
+      batch-back head input area l =
+          let run : Run = batchOf head T input (length area) in
+          rw (sym (batch-front head input (length area)))
+          (record {
+            stop = l .stop;
+            answered = l .answered;
+            taken = l .taken;
+            sent = l .sent;
+            head = l .head;
+            tables = back (run .store) (l .tables);
+            answers = l .answers;
+          })
+
+      -- and so is making a fresh store
+      pub fresh-back : (head : Head) (size : ℕ) {m : Made} {rt′ pt′ : List ℕ} → Fresh head size T m (tables u rt′ pt′ slab)
+          → FreshLeaves head L size (m .refusal) (m .head) (lent (take n (branchRowsOf (u ++ rest))) rt′ pt′ slab)
+      fresh-back head size l =
+          record {
+            refusal = l .refusal ∙ refusal-front head size;
+            made = l .head ∙ ap (λ (s : Store). s .head) (fresh-front head size);
+            tables = back (freshOf head T size) (l .tables) ∙ ap (λ (s : Store). laidOver s L) (fresh-front head size);
+          }
 
 -- more rows than a branch table may have: refusal 1, and nothing changes
-module _ (head : Head) (branches : List Branch) (rt pt slab : List ℕ) (many : 4096 < length branches) where
+module _ (head : Head) (l : Lent) (many : 4096 < length (l .branches)) where
   abbrev S : Store
-  S = lentStore head branches rt pt slab
+  S = lentStore head l
 
-  over : (size lr lp ls : ℕ) → sizesAllowed size (length branches) lr lp ls ≡ false
+  over : (size lr lp ls : ℕ) → sizesAllowed size (length (l .branches)) lr lp ls ≡ false
   unfolding sizesAllowed
   over size lr lp ls =
-      case (sizesAllowed size (length branches) lr lp ls)
+      case (sizesAllowed size (length (l .branches)) lr lp ls)
       (λ e.
-      let rows-allowed : between 1 4096 (length branches) ≡ true = and→ _ _ (and→ (between 1 65536 size) _ e .1) .0 in
-      absurd (omega (arith, many, leb-true (length branches) 4096 (and→ (leb 1 (length branches)) _ rows-allowed .1))))
+      let rows-allowed : between 1 4096 (length (l .branches)) ≡ true = and→ _ _ (and→ (between 1 65536 size) _ e .1) .0 in
+      absurd (omega (arith, many, leb-true (length (l .branches)) 4096 (and→ (leb 1 (length (l .branches))) _ rows-allowed .1))))
       (λ e. e)
 
-  many-batch : (input : List ℕ) (space : ℕ) → lentBatch head branches rt pt slab input space ≡ ended S 1
+  many-batch : (input : List ℕ) (space : ℕ) → lentBatch head l input space ≡ ended S 1
   unfolding lentBatch batch tableCheck inRange
   many-batch input space =
-      let e : sizesAllowed (head .size) (length branches) (length (recordRowsOf rt)) (length pt) (length slab) ≡ false =
-      over (head .size) (length (recordRowsOf rt)) (length pt) (length slab) in
-      case (wholeRecords rt) (λ w. rw (w, e)) (λ w. rw w)
+      let e : sizesAllowed (head .size) (length (l .branches)) (length (recordRowsOf (l .records))) (length (l .places)) (length (l .slab)) ≡ false =
+      over (head .size) (length (recordRowsOf (l .records))) (length (l .places)) (length (l .slab)) in
+      case (wholeRecords l) (λ w. rw (w, e)) (λ w. rw w)
 
-  pub many-batch-leaves : (input area : List ℕ)
-      → BatchLeaves (lentBatch head branches rt pt slab input (length area)) rt area (record { stop = 1; answered = 0; taken = 0; sent = 0 }) head branches rt pt slab area
+  pub many-batch-leaves : (input area : List ℕ) → BatchLeaves (lentBatch head l input (length area)) l area (record { stop = 1; answered = 0; taken = 0; sent = 0 }) head l area
   many-batch-leaves input area =
       rw (many-batch input (length area))
-      (record {
-        stop = refl;
-        answered = refl;
-        taken = refl;
-        sent = refl;
-        head = refl;
-        branches = refl;
-        records = sym (relaid-own record-kind rt);
-        places = refl;
-        slab = refl;
-        answers = refl;
-      })
+      (record { stop = refl; answered = refl; taken = refl; sent = refl; head = refl; tables = laid-itself head l; answers = refl })
 
-  many-refusal : (size : ℕ) → 1 ≡ lentRefusal head branches rt pt slab size
+  many-refusal : (size : ℕ) → 1 ≡ lentRefusal head l size
   unfolding lentRefusal freshCheck
   many-refusal size =
-      let e : sizesAllowed size (length branches) (length (recordRowsOf rt)) (length pt) (length slab) ≡ false =
-      over size (length (recordRowsOf rt)) (length pt) (length slab) in
-      case (wholeRecords rt) (λ w. rw (w, e)) (λ w. rw w)
+      let e : sizesAllowed size (length (l .branches)) (length (recordRowsOf (l .records))) (length (l .places)) (length (l .slab)) ≡ false =
+      over size (length (recordRowsOf (l .records))) (length (l .places)) (length (l .slab)) in
+      case (wholeRecords l) (λ w. rw (w, e)) (λ w. rw w)
 
-  many-fresh : (size : ℕ) → lentFresh head branches rt pt slab size ≡ S
+  many-fresh : (size : ℕ) → lentFresh head l size ≡ S
   unfolding lentFresh
   many-fresh size =
-      case (wholeRecords rt)
-      (λ w. rw (w, not-made S size (over size (length (recordRowsOf rt)) (length pt) (length slab))))
+      case (wholeRecords l)
+      (λ w. rw (w, not-made S size (over size (length (recordRowsOf (l .records))) (length (l .places)) (length (l .slab)))))
       (λ w. rw w)
 
-  pub many-fresh-leaves : (size : ℕ) → FreshLeaves (lentRefusal head branches rt pt slab size) (lentFresh head branches rt pt slab size) rt 1 head branches rt pt
+  pub many-fresh-leaves : (size : ℕ) → FreshLeaves head l size 1 head l
   many-fresh-leaves size =
-      rw (many-fresh size)
-      (record {
+      record {
         refusal = many-refusal size;
-        head = refl;
-        branches = refl;
-        records = sym (relaid-own record-kind rt);
-        places = refl;
-      })
+        made = ap (λ (s : Store). s .head) (sym (many-fresh size));
+        tables = laid-itself head l ∙ ap (λ (s : Store). laidOver s l) (sym (many-fresh size));
+      }

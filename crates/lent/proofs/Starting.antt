@@ -1,19 +1,20 @@
 -- A batch on a store that was just made, in one step.
-use mathlib.Core.Path.{_≡_, refl, sym, ap, _∙_}
+use mathlib.Core.Path.{_≡_, sym, ap, _∙_}
 use mathlib.Core.List.{List}
 use Prim.Native.Nat.{ℕ, _%_}
 use lib.Dec.{eqb}
 use lib.ListN.{length}
 use Rattle.model.specs.declared.Head.{Head}
-use Rattle.model.specs.declared.Branch.{Branch}
 use Rattle.model.specs.Store.{Store}
 use Rattle.model.specs.Soundness.{sizesAllowed}
+use Rattle.model.specs.Batch.{Run}
 use Rattle.model.specs.Fresh.{fresh, madeFresh}
 use Rattle.model.proofs.Base.{case}
+use Rattle.rows.specs.Rows.{recordWidth, recordRowsOf, recordTable, RecordsLaid}
 use Rattle.rows.proofs.Laws.{record-kind}
+use Rattle.rows.proofs.Relaid.{laid-rows, laid-over}
 use Rattle.lent.specs.declared.Report.{Report}
-use Rattle.lent.specs.Lent.{lentStore, wholeRecords, lentBatch, lentFresh, BatchLeaves, FreshLeaves, freshStart, freshBatch}
-use Rattle.lent.proofs.Loading.{relaid-back, relaid-again}
+use Rattle.lent.specs.Lent.{Lent, lent, lentStore, wholeRecords, lentBatch, lentFresh, BatchLeaves, FreshLeaves, freshStart, freshBatch}
 
 -- a fresh store leaves the slab untouched
 made-slab : (s : Store) (size : ℕ) → madeFresh s size .slab ≡ s .slab
@@ -21,44 +22,45 @@ unfolding madeFresh fresh
 made-slab s size =
     case (sizesAllowed size (length (s .branchRows)) (length (s .recordRows)) (length (s .placeRows)) (length (s .slab))) (λ e. rw e) (λ e. rw e)
 
-start-slab : (rt pt slab : List ℕ) (size : ℕ) → freshStart rt pt slab size .slab ≡ slab
+start-slab : (size : ℕ) (l : Lent) → freshStart size l .slab ≡ l .slab
 unfolding lentFresh
-start-slab rt pt slab size = case (wholeRecords rt) (λ e. rw e (made-slab _ size)) (λ e. rw e)
+start-slab size l = case (wholeRecords l) (λ e. rw e (made-slab _ size)) (λ e. rw e)
 
-module _ (size : ℕ) (rt pt slab : List ℕ) (due r : ℕ) (h₁ : Head) (b₁ : List Branch) (rt₁ pt₁ : List ℕ) (same : length rt₁ ≡ length rt) (made : FreshLeaves due (freshStart rt pt slab size) rt r h₁ b₁ rt₁ pt₁) where
+abbrev zeroHead : Head
+zeroHead = record { size = 0; branches = 0; records = 0; now = 0; floor = 0 }
+
+-- l₁ is what making a fresh store left of l
+module _ (size : ℕ) (l : Lent) (r : ℕ) (h₁ : Head) (l₁ : Lent) (same : length (l₁ .records) ≡ length (l .records)) (made : FreshLeaves zeroHead l size r h₁ l₁) where
   abbrev s : Store
-  s = freshStart rt pt slab size
+  s = freshStart size l
 
-  -- what is lent once the store is made is that store
-  store-made : lentStore h₁ b₁ rt₁ pt₁ slab ≡ s
-  store-made i =
-      record {
-        head = made .head i;
-        branchRows = made .branches i;
-        recordRows = relaid-back record-kind rt rt₁ (s .recordRows) same (made .records) i;
-        placeRows = made .places i;
-        slab = sym (start-slab rt pt slab size) i;
-      }
+  laid : RecordsLaid (l .records) (s .recordRows) (l₁ .records)
+  laid = record { table = ap (λ (x : Lent). x .records) (made .tables) }
 
-  batch-made : (input : List ℕ) (space : ℕ) → lentBatch h₁ b₁ rt₁ pt₁ slab input space ≡ freshBatch size rt pt slab input space
+  -- it is that store
+  store-made : lentStore h₁ l₁ ≡ s
+  store-made =
+      let rows : recordRowsOf (l₁ .records) ≡ s .recordRows = laid-rows record-kind laid same in
+      λ i. record { head = made .made i; branchRows = made .tables i .branches; recordRows = rows i; placeRows = made .tables i .places; slab = made .tables i .slab }
+
+  batch-made : (input : List ℕ) (space : ℕ) → lentBatch h₁ l₁ input space ≡ freshBatch size l input space
   unfolding lentBatch freshBatch
   batch-made input space =
-      let whole : wholeRecords rt₁ ≡ wholeRecords rt = ap (λ (n : ℕ). eqb (n % 3) 0) same in rw (whole, store-made)
+      let whole : wholeRecords l₁ ≡ wholeRecords l = ap (λ (n : ℕ). eqb (n % recordWidth) 0) same in rw (whole, store-made)
 
-  pub then-batch : (input area : List ℕ) (q : Report) (h₂ : Head) (b₂ : List Branch) (rt₂ pt₂ slab₂ area₂ : List ℕ)
-      → BatchLeaves (lentBatch h₁ b₁ rt₁ pt₁ slab input (length area)) rt₁ area q h₂ b₂ rt₂ pt₂ slab₂ area₂
-      → BatchLeaves (freshBatch size rt pt slab input (length area)) rt area q h₂ (freshBatch size rt pt slab input (length area) .store .branchRows) rt₂ pt₂ slab₂ area₂
-  then-batch input area q h₂ b₂ rt₂ pt₂ slab₂ area₂ l =
+  -- and what is laid over it is laid over l
+  pub then-batch : (input area : List ℕ) (q : Report) (h₂ : Head) (l₂ : Lent) (area₂ : List ℕ) → BatchLeaves (lentBatch h₁ l₁ input (length area)) l₁ area q h₂ l₂ area₂
+      → BatchLeaves (freshBatch size l input (length area)) l area q h₂ (lent (freshBatch size l input (length area) .store .branchRows) (l₂ .records) (l₂ .places) (l₂ .slab)) area₂
+  then-batch input area q h₂ l₂ area₂ x =
+      let run : Run = lentBatch h₁ l₁ input (length area) in
+      let er : l₂ .records ≡ recordTable (run .store .recordRows) (l .records) = ap (λ (y : Lent). y .records) (x .tables) ∙ laid-over record-kind laid same (run .store .recordRows) in
       rw (sym (batch-made input (length area)))
       (record {
-        stop = l .stop;
-        answered = l .answered;
-        taken = l .taken;
-        sent = l .sent;
-        head = l .head;
-        branches = refl;
-        records = l .records ∙ relaid-again record-kind rt rt₁ (s .recordRows) same (made .records) _;
-        places = l .places;
-        slab = l .slab;
-        answers = l .answers;
+        stop = x .stop;
+        answered = x .answered;
+        taken = x .taken;
+        sent = x .sent;
+        head = x .head;
+        tables = λ i. record { branches = run .store .branchRows; records = er i; places = x .tables i .places; slab = x .tables i .slab };
+        answers = x .answers;
       })

@@ -1,8 +1,8 @@
 -- The local table of a thin call: its length, what it holds once the rows are loaded, and what the calls of `load_rows` and `store_rows` are handed.
 -- It is shared by the walks of `run_batch` and of `make_fresh`, whose rows are lent at the second lifetime of the signature.
 -- Assumes `Given`.
-use mathlib.Core.Path.{_≡_, refl, ap}
-use Prim.Native.Nat.{ℕ, _*_, _%_, _≤_}
+use mathlib.Core.Path.{_≡_, refl}
+use Prim.Native.Nat.{ℕ, _*_, _≤_}
 use native.Mathlib.Omega.{arith}
 use mathlib.Core.List.{List, [], _∷_, _++_}
 use lib.Dec.{lit<}
@@ -29,10 +29,10 @@ use denote.Triple.Spec.{tripleOf}
 use denote.Triple.Statement.{Contract}
 use denote.Triple.Walked.{says}
 use Rattle.model.specs.declared.Branch.{Branch}
-use Rattle.rows.specs.Rows.{flat, branchFields, branchRowsOf}
+use Rattle.rows.specs.Rows.{flat, branchWidth, branchFields, branchRowsOf, BranchesIn}
 use Rattle.rows.proofs.Laws.{branch-kind}
+use Rattle.rows.proofs.Relaid.{length-flat, first-rows}
 use Rattle.lent.proofs.Local.{at-list}
-use Rattle.lent.proofs.Loading.{length-flat, first-rows}
 use Rattle.model.proofs.Branch as B
 use Rattle.lent.proofs.load_rows as ld
 use Rattle.lent.proofs.store_rows as st
@@ -47,7 +47,7 @@ module _ {M : Type 1} (𝓤 : URA M) (H : Heap 𝓤) (A : Atoms 𝓤) (at-mem : 
 
 -- the table's length, and that it has room
 abbrev pub N : ℕ
-N = 12288
+N = 4096 * branchWidth
 
 pub n-room : Room u32 N
 n-room = (lit< tt, lit< tt)
@@ -60,23 +60,20 @@ zero-is = (refl, lit< tt)
 
 -- the table once the rows are loaded
 abbrev pub full : List Branch → List ℕ
-full ys = flat branchFields ys ++ dropL (length ys * 3) zeros
+full ys = flat branchFields ys ++ dropL (length ys * branchWidth) zeros
 
 module _ (ys : List Branch) (small : length ys ≤ 4096) where
   zeros-length : length zeros ≡ N
   zeros-length = length-replicate {A = ℕ} N 0
 
-  zeros-whole : length zeros % 3 ≡ 0
-  zeros-whole = ap (λ (k : ℕ). k % 3) zeros-length
-
-  zeros-fit : length ys * 3 ≤ length zeros
+  zeros-fit : BranchesIn (length ys) zeros
   zeros-fit = omega (arith, zeros-length, small)
 
-  pub full-fit : length ys * 3 ≤ length (full ys)
-  full-fit = omega (arith, length-append (flat branchFields ys) (dropL (length ys * 3) zeros), length-flat branch-kind ys)
+  pub full-fit : BranchesIn (length ys) (full ys)
+  full-fit = omega (arith, length-append (flat branchFields ys) (dropL (length ys * branchWidth) zeros), length-flat branch-kind ys)
 
   pub full-rows : take (length ys) (branchRowsOf (full ys)) ≡ ys
-  full-rows = first-rows branch-kind ys (dropL (length ys * 3) zeros)
+  full-rows = first-rows branch-kind ys (dropL (length ys * branchWidth) zeros)
 
   -- what each triple binds outside, and what is handed over; l is the table's block
   module _ {M : Type 1} (𝓤 : URA M) (H : Heap 𝓤) (A : Atoms 𝓤) (W : Given 𝓤 H A) (at-mem : Memory → SProp 𝓤) (run : Routine → Fun 𝓤) (κ : Lft) (q : Share) (b o : ℕ) (γ : GName) (l : ℕ) where
@@ -101,7 +98,7 @@ module _ (ys : List Branch) (small : length ys ≤ 4096) where
         (Ld 𝓤 H A at-mem run .pre (to-load ν μ δ ε))
     goes-load ν μ δ ε =
         qed W ((‵ (flft (ν ∷ []) fullShare) ⊛ ‵ (flft (μ ∷ []) fullShare) ⊛ ‵ ftrue) ∷ ‵ (ShrSlice (named 0) (ν ∷ []) S .own (x δ) (s ∷ [])) ∷ ‵ (MutSlice (named 1) (μ ∷ []) u32 .own (at-list l ε zeros) (t ∷ [])) ∷ []) ∵
-        says ! (zeros-fit, zeros-whole) $ frame ! $ nothing ! $ move ! (2 ∷ 0 ∷ []) $ fjoin ! $ move ! (1 ∷ 0 ∷ []) $ fjoin ! $ done !
+        says ! zeros-fit $ frame ! $ nothing ! $ move ! (2 ∷ 0 ∷ []) $ fjoin ! $ move ! (1 ∷ 0 ∷ []) $ fjoin ! $ done !
 
     abbrev pub to-store : List ℕ → ℕ → GName → St 𝓤 H A at-mem run .Ghost
     to-store zt μ ε = (((κ, (μ ∷ [], tt)), (q, (fullShare, tt)), tt, (x γ, (at-list l ε zt, tt)), (s ∷ [], (t ∷ [], tt))), tt)

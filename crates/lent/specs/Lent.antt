@@ -13,56 +13,65 @@ use Rattle.model.specs.Fresh.{freshCheck, madeFresh}
 use Rattle.rows.specs.Rows.{recordWidth, recordRowsOf, recordTable}
 use Rattle.lent.specs.declared.Report.{Report}
 
--- head, branch rows, the other tables and the slab as the store that they are
-abbrev pub lentStore : Head → List Branch → List ℕ → List ℕ → List ℕ → Store
-lentStore head branches rt pt slab =
-    record { head = head; branchRows = branches; recordRows = recordRowsOf rt; placeRows = pt; slab = slab }
+-- branch rows, the other tables and the slab, as they are lent
+pub record Lent : Type 0 where
+  pub branches : List Branch
+  pub records : List ℕ
+  pub places : List ℕ
+  pub slab : List ℕ
+
+abbrev pub lent : List Branch → List ℕ → List ℕ → List ℕ → Lent
+lent branches rt pt slab = record { branches = branches; records = rt; places = pt; slab = slab }
+
+-- with a head, the store that they are
+abbrev pub lentStore : Head → Lent → Store
+lentStore head l =
+    record { head = head; branchRows = l .branches; recordRows = recordRowsOf (l .records); placeRows = l .places; slab = l .slab }
+
+-- what is lent with a store laid over it: every row and every number
+abbrev pub laidOver : Store → Lent → Lent
+laidOver s l = lent (s .branchRows) (recordTable (s .recordRows) (l .records)) (s .placeRows) (s .slab)
 
 -- the record table is a whole number of rows long
-abbrev pub wholeRecords : List ℕ → Bool
-wholeRecords rt = eqb (length rt % recordWidth) 0
+abbrev pub wholeRecords : Lent → Bool
+wholeRecords l = eqb (length (l .records) % recordWidth) 0
 
 -- the model's batch on what is lent; a record table that is no whole number of rows is refusal 1
-unfoldable pub lentBatch : Head → List Branch → List ℕ → List ℕ → List ℕ → List ℕ → ℕ → Run
-lentBatch head branches rt pt slab input space =
-    cond (wholeRecords rt) (batch (lentStore head branches rt pt slab) input space) (ended (lentStore head branches rt pt slab) 1)
+unfoldable pub lentBatch : Head → Lent → List ℕ → ℕ → Run
+lentBatch head l input space = cond (wholeRecords l) (batch (lentStore head l) input space) (ended (lentStore head l) 1)
 
--- what a batch reports and leaves: the stop number, the three counts, the head, each table, the slab and the answer area
-pub record BatchLeaves (run : Run) (rt area : List ℕ) (r : Report) (head′ : Head) (branches′ : List Branch) (rt′ pt′ slab′ area′ : List ℕ) : Type 0 where
+-- what a run on what is lent reports and leaves: the stop number, the three counts, the head, all that is lent, and the answer area
+pub record BatchLeaves (run : Run) (l : Lent) (area : List ℕ) (r : Report) (head′ : Head) (l′ : Lent) (area′ : List ℕ) : Type 0 where
   pub stop : r .stop ≡ run .stop
   pub answered : r .answered ≡ answeredCount run
   pub taken : r .taken ≡ requestCount run
   pub sent : r .sent ≡ answerCount run
   pub head : head′ ≡ run .store .head
-  pub branches : branches′ ≡ run .store .branchRows
-  pub records : rt′ ≡ recordTable (run .store .recordRows) rt
-  pub places : pt′ ≡ run .store .placeRows
-  pub slab : slab′ ≡ run .store .slab
+  pub tables : l′ ≡ laidOver (run .store) l
   pub answers : area′ ≡ areaAfter run area
 
 -- a fresh store of `size` pages over what is lent; a refusal changes nothing
-unfoldable pub lentFresh : Head → List Branch → List ℕ → List ℕ → List ℕ → ℕ → Store
-lentFresh head branches rt pt slab size =
-    cond (wholeRecords rt) (madeFresh (lentStore head branches rt pt slab) size) (lentStore head branches rt pt slab)
+unfoldable pub lentFresh : Head → Lent → ℕ → Store
+lentFresh head l size = cond (wholeRecords l) (madeFresh (lentStore head l) size) (lentStore head l)
 
 -- its refusal: 1, or 0 where there is none
-unfoldable pub lentRefusal : Head → List Branch → List ℕ → List ℕ → List ℕ → ℕ → ℕ
-lentRefusal head branches rt pt slab size = cond (wholeRecords rt) (freshCheck (lentStore head branches rt pt slab) size) 1
+unfoldable pub lentRefusal : Head → Lent → ℕ → ℕ
+lentRefusal head l size = cond (wholeRecords l) (freshCheck (lentStore head l) size) 1
 
--- what making a fresh store gives back and leaves: the refusal, the head and every number of each table
-pub record FreshLeaves (due : ℕ) (store : Store) (rt : List ℕ) (r : ℕ) (head′ : Head) (branches′ : List Branch) (rt′ pt′ : List ℕ) : Type 0 where
-  pub refusal : r ≡ due
-  pub head : head′ ≡ store .head
-  pub branches : branches′ ≡ store .branchRows
-  pub records : rt′ ≡ recordTable (store .recordRows) rt
-  pub places : pt′ ≡ store .placeRows
+-- what making a fresh store gives back and leaves: the refusal, the head and all that is lent
+pub record FreshLeaves (head : Head) (l : Lent) (size r : ℕ) (head′ : Head) (l′ : Lent) : Type 0 where
+  pub refusal : r ≡ lentRefusal head l size
+  pub made : head′ ≡ lentFresh head l size .head
+  pub tables : l′ ≡ laidOver (lentFresh head l size) l
 
--- a head and 16 branch rows of zeros, with tables and slab that are lent, made a fresh store of `size` pages
-abbrev pub freshStart : List ℕ → List ℕ → List ℕ → ℕ → Store
-freshStart rt pt slab size =
-    lentFresh (record { size = 0; branches = 0; records = 0; now = 0; floor = 0 }) (replicate 16 zero-branch) rt pt slab size
+-- 16 branch rows of zeros, with tables and slab that are lent
+abbrev pub zeroRows : List ℕ → List ℕ → List ℕ → Lent
+zeroRows = lent (replicate 16 zero-branch)
+
+-- made a fresh store of `size` pages, with a head of zeros
+abbrev pub freshStart : ℕ → Lent → Store
+freshStart size l = lentFresh (record { size = 0; branches = 0; records = 0; now = 0; floor = 0 }) l size
 
 -- the model's batch on that store; a record table that is no whole number of rows is refusal 1
-unfoldable pub freshBatch : ℕ → List ℕ → List ℕ → List ℕ → List ℕ → ℕ → Run
-freshBatch size rt pt slab input space =
-    cond (wholeRecords rt) (batch (freshStart rt pt slab size) input space) (ended (freshStart rt pt slab size) 1)
+unfoldable pub freshBatch : ℕ → Lent → List ℕ → ℕ → Run
+freshBatch size l input space = cond (wholeRecords l) (batch (freshStart size l) input space) (ended (freshStart size l) 1)

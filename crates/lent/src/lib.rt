@@ -4,11 +4,16 @@ use model::Branch;
 use model::Head;
 ghost use mathlib.Core.Path.{_≡_};
 ghost use mathlib.Core.List.{_++_};
-ghost use Prim.Native.Nat.{_*_, _%_, _<_, _≤_};
+ghost use Prim.Native.Nat.{_*_, _<_};
 ghost use lib.ListN.{length, getD, set, take, drop};
 ghost use Rattle.model.specs.Store.{zero-branch};
-ghost use Rattle.lent.specs.Lent.{lentBatch, BatchLeaves, lentFresh, lentRefusal, FreshLeaves, freshBatch};
-ghost use Rattle.rows.specs.Rows.{flat, branchWidth, branchFields, branchRowsOf};
+ghost use Rattle.rows.specs.Rows.{flat, branchWidth, branchFields, branchRowsOf, BranchesIn};
+ghost use Rattle.lent.specs.Lent.{lent, lentBatch, BatchLeaves, FreshLeaves, zeroRows, freshBatch};
+
+// As many branch rows as a store may have, and their numbers.
+const MOST_ROWS: usize = 4096;
+
+const MOST_NUMBERS: usize = MOST_ROWS * rows::BRANCH_WIDTH;
 
 // One row of a lent branch table.
 pub fn branch_row(rows: &[Branch], i: usize) -> Branch
@@ -28,7 +33,7 @@ pub fn set_branch_row(rows: &mut [Branch], i: usize, b: Branch)
 
 // All rows, laid flat at the start of a table; the rest of the table stays.
 pub fn load_rows(rows: &[Branch], table: &mut [u32])
-    requires { ⌜ (length (now rows) * branchWidth ≤ length (now table)) × (length (now table) % branchWidth ≡ 0) ⌝ }
+    requires { ⌜ BranchesIn (length (now rows)) (now table) ⌝ }
     ensures { λ _. ⌜ now (table .exit) ≡ flat branchFields (now (rows .entry)) ++ drop (length (now (rows .entry)) * branchWidth) (now (table .entry)) ⌝ }
 {
     let mut i: usize = 0;
@@ -40,7 +45,7 @@ pub fn load_rows(rows: &[Branch], table: &mut [u32])
 
 // As many rows as are lent, out of the start of a flat table.
 pub fn store_rows(rows: &mut [Branch], table: &[u32])
-    requires { ⌜ length (now rows) * branchWidth ≤ length (now table) ⌝ }
+    requires { ⌜ BranchesIn (length (now rows)) (now table) ⌝ }
     ensures { λ _. ⌜ now (rows .exit) ≡ take (length (now (rows .entry))) (branchRowsOf (now (table .entry))) ⌝ }
 {
     let mut i: usize = 0;
@@ -75,10 +80,10 @@ pub fn batch_rows(
     input: &[u8],
     answers: &mut [u8],
 ) -> Ended
-    requires { ⌜ count * branchWidth ≤ length (now table) ⌝ }
-    ensures { λ r. ⌜ (drop (count * branchWidth) (now (table .exit)) ≡ drop (count * branchWidth) (now (table .entry))) × BatchLeaves (lentBatch head (take count (branchRowsOf (now (table .entry)))) (now (rt .entry)) (now (pt .entry)) (now (slab .entry)) (now (input .entry)) (length (now (answers .entry)))) (now (rt .entry)) (now (answers .entry)) (r .report) (r .head) (take count (branchRowsOf (now (table .exit)))) (now (rt .exit)) (now (pt .exit)) (now (slab .exit)) (now (answers .exit)) ⌝ }
+    requires { ⌜ BranchesIn count (now table) ⌝ }
+    ensures { λ r. ⌜ (drop (count * branchWidth) (now (table .exit)) ≡ drop (count * branchWidth) (now (table .entry))) × BatchLeaves (lentBatch head (lent (take count (branchRowsOf (now (table .entry)))) (now (rt .entry)) (now (pt .entry)) (now (slab .entry))) (now (input .entry)) (length (now (answers .entry)))) (lent (take count (branchRowsOf (now (table .entry)))) (now (rt .entry)) (now (pt .entry)) (now (slab .entry))) (now (answers .entry)) (r .report) (r .head) (lent (take count (branchRowsOf (now (table .exit)))) (now (rt .exit)) (now (pt .exit)) (now (slab .exit))) (now (answers .exit)) ⌝ }
 {
-    let end = count * 3;
+    let end = count * rows::BRANCH_WIDTH;
     let done = batch::batch(head, &mut table[..end], rt, pt, slab, input, answers);
     let after = done.head;
     Ended {
@@ -102,10 +107,10 @@ pub fn fresh_rows(
     pt: &mut [u32],
     slab: &[u8],
 ) -> Made
-    requires { ⌜ count * branchWidth ≤ length (now table) ⌝ }
-    ensures { λ r. ⌜ (drop (count * branchWidth) (now (table .exit)) ≡ drop (count * branchWidth) (now (table .entry))) × FreshLeaves (lentRefusal head (take count (branchRowsOf (now (table .entry)))) (now (rt .entry)) (now (pt .entry)) (now (slab .entry)) size) (lentFresh head (take count (branchRowsOf (now (table .entry)))) (now (rt .entry)) (now (pt .entry)) (now (slab .entry)) size) (now (rt .entry)) (r .refusal) (r .head) (take count (branchRowsOf (now (table .exit)))) (now (rt .exit)) (now (pt .exit)) ⌝ }
+    requires { ⌜ BranchesIn count (now table) ⌝ }
+    ensures { λ r. ⌜ (drop (count * branchWidth) (now (table .exit)) ≡ drop (count * branchWidth) (now (table .entry))) × FreshLeaves head (lent (take count (branchRowsOf (now (table .entry)))) (now (rt .entry)) (now (pt .entry)) (now (slab .entry))) size (r .refusal) (r .head) (lent (take count (branchRowsOf (now (table .exit)))) (now (rt .exit)) (now (pt .exit)) (now (slab .entry))) ⌝ }
 {
-    let end = count * 3;
+    let end = count * rows::BRANCH_WIDTH;
     fresh::make(head, size, &mut table[..end], rt, pt, slab)
 }
 
@@ -119,9 +124,9 @@ pub fn run_batch(
     input: &[u8],
     answers: &mut [u8],
 ) -> Report
-    ensures { λ r. ⌜ BatchLeaves (lentBatch (now (head .entry)) (now (branches .entry)) (now (rt .entry)) (now (pt .entry)) (now (slab .entry)) (now (input .entry)) (length (now (answers .entry)))) (now (rt .entry)) (now (answers .entry)) r (now (head .exit)) (now (branches .exit)) (now (rt .exit)) (now (pt .exit)) (now (slab .exit)) (now (answers .exit)) ⌝ }
+    ensures { λ r. ⌜ BatchLeaves (lentBatch (now (head .entry)) (lent (now (branches .entry)) (now (rt .entry)) (now (pt .entry)) (now (slab .entry))) (now (input .entry)) (length (now (answers .entry)))) (lent (now (branches .entry)) (now (rt .entry)) (now (pt .entry)) (now (slab .entry))) (now (answers .entry)) r (now (head .exit)) (lent (now (branches .exit)) (now (rt .exit)) (now (pt .exit)) (now (slab .exit))) (now (answers .exit)) ⌝ }
 {
-    if 4096 < branches.len() {
+    if MOST_ROWS < branches.len() {
         return Report {
             stop: 1,
             answered: 0,
@@ -129,7 +134,7 @@ pub fn run_batch(
             sent: 0,
         };
     }
-    let mut table = [0u32; 12288];
+    let mut table = [0u32; MOST_NUMBERS];
     load_rows(branches, &mut table);
     let done = batch_rows(
         *head,
@@ -155,12 +160,12 @@ pub fn make_fresh(
     pt: &mut [u32],
     slab: &[u8],
 ) -> u32
-    ensures { λ r. ⌜ FreshLeaves (lentRefusal (now (head .entry)) (now (branches .entry)) (now (rt .entry)) (now (pt .entry)) (now (slab .entry)) size) (lentFresh (now (head .entry)) (now (branches .entry)) (now (rt .entry)) (now (pt .entry)) (now (slab .entry)) size) (now (rt .entry)) r (now (head .exit)) (now (branches .exit)) (now (rt .exit)) (now (pt .exit)) ⌝ }
+    ensures { λ r. ⌜ FreshLeaves (now (head .entry)) (lent (now (branches .entry)) (now (rt .entry)) (now (pt .entry)) (now (slab .entry))) size r (now (head .exit)) (lent (now (branches .exit)) (now (rt .exit)) (now (pt .exit)) (now (slab .entry))) ⌝ }
 {
-    if 4096 < branches.len() {
+    if MOST_ROWS < branches.len() {
         return 1;
     }
-    let mut table = [0u32; 12288];
+    let mut table = [0u32; MOST_NUMBERS];
     load_rows(branches, &mut table);
     let made = fresh_rows(*head, size, branches.len(), &mut table, rt, pt, slab);
     store_rows(branches, &table);
@@ -177,7 +182,7 @@ pub fn fresh_batch(
     input: &[u8],
     answers: &mut [u8],
 ) -> Ended
-    ensures { λ r. ⌜ BatchLeaves (freshBatch size (now (rt .entry)) (now (pt .entry)) (now (slab .entry)) (now (input .entry)) (length (now (answers .entry)))) (now (rt .entry)) (now (answers .entry)) (r .report) (r .head) (freshBatch size (now (rt .entry)) (now (pt .entry)) (now (slab .entry)) (now (input .entry)) (length (now (answers .entry))) .store .branchRows) (now (rt .exit)) (now (pt .exit)) (now (slab .exit)) (now (answers .exit)) ⌝ }
+    ensures { λ r. ⌜ BatchLeaves (freshBatch size (zeroRows (now (rt .entry)) (now (pt .entry)) (now (slab .entry))) (now (input .entry)) (length (now (answers .entry)))) (zeroRows (now (rt .entry)) (now (pt .entry)) (now (slab .entry))) (now (answers .entry)) (r .report) (r .head) (lent (freshBatch size (zeroRows (now (rt .entry)) (now (pt .entry)) (now (slab .entry))) (now (input .entry)) (length (now (answers .entry))) .store .branchRows) (now (rt .exit)) (now (pt .exit)) (now (slab .exit))) (now (answers .exit)) ⌝ }
 {
     let mut head = Head {
         size: 0,

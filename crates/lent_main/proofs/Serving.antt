@@ -1,61 +1,51 @@
 -- The program's tables made a fresh store, and the batch on it.
-use mathlib.Core.Path.{_≡_, refl, ap, _∙_}
+use mathlib.Core.Path.{_≡_, ap, _∙_}
 use mathlib.Core.List.{List}
 use mathlib.Core.Bool.{true}
-use Prim.Native.Nat.{ℕ, _≤_, _%_, _/_}
+use Prim.Native.Nat.{ℕ, _*_, _%_, _/_, _≤_}
 use native.Mathlib.Omega.{arith}
 use lib.Dec.{eqb}
-use lib.ListN.{length, drop, replicate, length-append, length-replicate}
+use lib.ListN.{length, drop, length-append, length-replicate}
 use Rattle.model.specs.declared.Branch.{Branch}
 use Rattle.model.specs.Store.{Store, zero-branch}
 use Rattle.model.specs.Soundness.{sizesAllowed}
-use Rattle.model.specs.Batch.{batch}
-use Rattle.model.specs.Fresh.{fresh, madeFresh}
-use Rattle.model.specs.Session.{cabinet}
-use Rattle.rows.specs.Rows.{recordRowsOf}
-use Rattle.rows.proofs.Laws.{record-count}
+use Rattle.model.specs.Fresh.{programStore, madeFresh}
+use Rattle.rows.specs.Rows.{zeros, recordWidth, recordRowsOf}
+use Rattle.rows.proofs.Laws.{record-count, length-zeros}
 use Rattle.lent.specs.declared.Ended.{Ended}
-use Rattle.lent.specs.Lent.{wholeRecords, lentFresh, freshStart, freshBatch, BatchLeaves}
-use Rattle.lent_main.specs.Session.{zeros, Replies}
+use Rattle.lent.specs.Lent.{Lent, wholeRecords, lentFresh, zeroRows, freshStart, freshBatch, BatchLeaves}
+use Rattle.lent_main.specs.Session.{runOf, Replies}
 
-length-zeros : (n : ℕ) → length (zeros n) ≡ n
-unfolding zeros
-length-zeros n = length-replicate {A = ℕ} n 0
+-- what the program lends
+abbrev program : Lent
+program = zeroRows (zeros (128 * recordWidth)) (zeros 128) (zeros (128 * 256))
 
--- the sizes of the program's tables
-whole : wholeRecords (zeros 384) ≡ true
-whole = ap (λ (n : ℕ). eqb (n % 3) 0) (length-zeros 384)
+whole : wholeRecords program ≡ true
+whole = ap (λ (n : ℕ). eqb (n % recordWidth) 0) (length-zeros (128 * recordWidth))
 
-rows : length (recordRowsOf (zeros 384)) ≡ 128
-rows = record-count (zeros 384) ∙ ap (λ (n : ℕ). n / 3) (length-zeros 384)
+rows : length (recordRowsOf (zeros (128 * recordWidth))) ≡ 128
+rows = record-count (zeros (128 * recordWidth)) ∙ ap (λ (n : ℕ). n / recordWidth) (length-zeros (128 * recordWidth))
 
-made : (s : Store) → length (s .branchRows) ≡ 16 → length (s .recordRows) ≡ 128 → length (s .placeRows) ≡ 128 → length (s .slab) ≡ 32768 → madeFresh s 64 ≡ fresh 64 16 128 128 (s .slab)
+made : (s : Store) → length (s .branchRows) ≡ 16 → length (s .recordRows) ≡ 128 → length (s .placeRows) ≡ 128 → length (s .slab) ≡ 128 * 256 → madeFresh s 64 ≡ programStore (s .slab)
 unfolding madeFresh sizesAllowed
 made s b r p l = rw (b, r, p, l)
 
-slab-is : zeros 32768 ≡ replicate 32768 0
-unfolding zeros
-slab-is = refl
-
-started : freshStart (zeros 384) (zeros 128) (zeros 32768) 64 ≡ cabinet
+started : freshStart 64 program ≡ programStore (zeros (128 * 256))
 unfolding lentFresh
-started =
-    rw whole (made _ (length-replicate {A = Branch} 16 zero-branch) rows (length-zeros 128) (length-zeros 32768))
-    ∙ ap (λ (slab : List ℕ). fresh 64 16 128 128 slab) slab-is
+started = rw whole (made _ (length-replicate {A = Branch} 16 zero-branch) rows (length-zeros 128) (length-zeros (128 * 256)))
 
-batch-is : (input : List ℕ) (space : ℕ) → freshBatch 64 (zeros 384) (zeros 128) (zeros 32768) input space ≡ batch cabinet input space
+batch-is : (input : List ℕ) (space : ℕ) → freshBatch 64 program input space ≡ runOf input space
 unfolding freshBatch
 batch-is input space = rw (whole, started)
 
 -- what the batch leaves is the program's reply
-pub replies : {input area rt pt slab area′ : List ℕ} {branches : List Branch} {r : Ended}
-    → BatchLeaves (freshBatch 64 (zeros 384) (zeros 128) (zeros 32768) input (length area)) (zeros 384) area (r .report) (r .head) branches rt pt slab area′ → Replies input area r area′
-replies {input} {area} {rt} {pt} {slab} {area′} {branches} {r} l =
+pub replies : {input area area′ : List ℕ} {l′ : Lent} {r : Ended} → BatchLeaves (freshBatch 64 program input (length area)) program area (r .report) (r .head) l′ area′ → Replies input area r area′
+replies {input} {area} {area′} {l′} {r} l =
     let w = rw (batch-is input (length area)) at l in
     record { stop = w .stop; answered = w .answered; taken = w .taken; sent = w .sent; head = w .head; answers = w .answers }
 
 -- the answers stand in the answer area
 pub sent-within : {input area area′ : List ℕ} {r : Ended} → Replies input area r area′ → r .report .sent ≤ length area′
 sent-within {input} {area} {area′} {r} p =
-    let out : List ℕ = batch cabinet input (length area) .out in
+    let out : List ℕ = runOf input (length area) .out in
     omega (arith, p .sent, ap length (p .answers), length-append out (drop (length out) area))

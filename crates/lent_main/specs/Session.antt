@@ -1,21 +1,22 @@
 -- What the program answers to its input.
 use mathlib.Core.Path.{_≡_}
 use mathlib.Core.List.{List}
-use Prim.Native.Nat.{ℕ}
-use lib.ListN.{length, replicate}
-use Rattle.model.specs.Batch.{batch, answeredCount, requestCount, answerCount, areaAfter}
-use Rattle.model.specs.Session.{cabinet}
+use Prim.Native.Nat.{ℕ, _*_}
+use lib.ListN.{length}
+use Rattle.model.specs.Fresh.{programStore}
+use Rattle.model.specs.Batch.{Run, batch, answeredCount, requestCount, answerCount, areaAfter}
+use Rattle.rows.specs.Rows.{zeros}
 use Rattle.lent.specs.declared.Ended.{Ended}
 
--- n zeros: the tables and the slab as the program makes them
-unfoldable pub zeros : ℕ → List ℕ
-zeros n = replicate n 0
+-- the model's batch on the fresh store of the batch program
+abbrev pub runOf : List ℕ → ℕ → Run
+runOf = batch (programStore (zeros (128 * 256)))
 
--- the report, the head and the answer area are those of the model's batch on a fresh store: A 64, 16 branches, 128 records, 128 places
+-- the report, the head and the answer area are those of that batch
 pub record Replies (input area : List ℕ) (r : Ended) (area′ : List ℕ) : Type 0 where
-  pub stop : r .report .stop ≡ batch cabinet input (length area) .stop
-  pub answered : r .report .answered ≡ answeredCount (batch cabinet input (length area))
-  pub taken : r .report .taken ≡ requestCount (batch cabinet input (length area))
-  pub sent : r .report .sent ≡ answerCount (batch cabinet input (length area))
-  pub head : r .head ≡ batch cabinet input (length area) .store .head
-  pub answers : area′ ≡ areaAfter (batch cabinet input (length area)) area
+  pub stop : r .report .stop ≡ runOf input (length area) .stop
+  pub answered : r .report .answered ≡ answeredCount (runOf input (length area))
+  pub taken : r .report .taken ≡ requestCount (runOf input (length area))
+  pub sent : r .report .sent ≡ answerCount (runOf input (length area))
+  pub head : r .head ≡ runOf input (length area) .store .head
+  pub answers : area′ ≡ areaAfter (runOf input (length area)) area

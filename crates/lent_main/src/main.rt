@@ -2,19 +2,25 @@
 // the answers go to standard output, then the report and the head, a line each.
 use lent::Ended;
 ghost use mathlib.Core.Path.{_≡_};
+ghost use Prim.Native.Nat.{_*_};
 ghost use lib.ListN.{length};
-ghost use Rattle.lent_main.specs.Session.{zeros, Replies};
+ghost use Rattle.rows.specs.Rows.{zeros, recordWidth};
+ghost use Rattle.lent_main.specs.Session.{Replies};
 
-fn page_slab() -> [u8; 32768]
-    ensures { λ r. ⌜ r ≡ zeros 32768 ⌝ }
+const RECORD_NUMBERS: usize = 128 * rows::RECORD_WIDTH;
+
+const SLAB_BYTES: usize = 128 * 256;
+
+fn page_slab() -> [u8; SLAB_BYTES]
+    ensures { λ r. ⌜ r ≡ zeros (128 * 256) ⌝ }
 {
-    [0u8; 32768]
+    [0u8; SLAB_BYTES]
 }
 
-fn record_rows() -> [u32; 384]
-    ensures { λ r. ⌜ r ≡ zeros 384 ⌝ }
+fn record_rows() -> [u32; RECORD_NUMBERS]
+    ensures { λ r. ⌜ r ≡ zeros (128 * recordWidth) ⌝ }
 {
-    [0u32; 384]
+    [0u32; RECORD_NUMBERS]
 }
 
 fn place_rows() -> [u32; 128]

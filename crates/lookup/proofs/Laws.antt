@@ -15,7 +15,7 @@ use Rattle.model.specs.Soundness.{precedes}
 use Rattle.model.proofs.Base.{case, absurd-test}
 use Rattle.model.proofs.Latest.{precedes→, →precedes}
 use Rattle.lookup.specs.Order.{upTo}
-use Rattle.model.proofs.ByNumber.{Ascend, entry}
+use Rattle.model.specs.ByNumber.{Ascend, entry}
 
 ordered : (q r : Record) → precedes q r ≡ true → (q .address ≤ r .address) × (q .address ≡ r .address → q .moment < r .moment)
 ordered q r e = elim (precedes→ q r e .order) [ inl h ↦ (omega arith, λ z. absurd (omega arith)) | inr h ↦ (omega arith, λ z. h .1) ]

@@ -15,9 +15,9 @@ use Rattle.model.specs.Store.{zero-branch, zero-record}
 use Rattle.model.specs.Lookup.{within, orElse, latest, ancestry, firstFound, holds}
 use Rattle.model.proofs.Base.{case}
 use Rattle.model.proofs.Latest.{Within, →within, not-within}
-use Rattle.model.proofs.Ancestry.{Holds, holds→, →holds, Falls, find, find-hold, find-skip}
-use Rattle.model.proofs.ByNumber.{newestOf, top}
-use Rattle.model.proofs.ByNumber.{Ascend, entry}
+use Rattle.model.proofs.Ancestry.{Holds, holds→, →holds, find-hold, find-skip}
+use Rattle.model.specs.ByNumber.{Falls, find, newestOf, Ascend, entry}
+use Rattle.model.proofs.ByNumber.{top}
 use Rattle.lookup.proofs.Laws.{Bracket}
 
 -- `latest`, by numbers

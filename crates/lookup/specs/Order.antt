@@ -1,11 +1,8 @@
 -- Records in their order, by their numbers.
-use mathlib.Core.Path.{_≡_}
 use mathlib.Core.List.{List, [], _∷_}
-use mathlib.Core.Bool.{Bool, cond}
-use Prim.Native.Nat.{ℕ, suc, _≤_, _<_}
-use lib.ListN.{getD}
+use mathlib.Core.Bool.{cond}
+use Prim.Native.Nat.{ℕ, suc}
 use Rattle.model.specs.declared.Record.{Record}
-use Rattle.model.specs.Store.{zero-record}
 use Rattle.model.specs.Soundness.{precedes}
 
 -- how many records stand up to (address, moment), itself included

@@ -1,18 +1,15 @@
 // The lookup: the record that an address has at a moment.
 use rows::Found;
 ghost use mathlib.Core.Path.{_≡_};
-ghost use Prim.Native.Nat.{_+_, _*_, _-_, _≤_, _<_};
-ghost use lib.ListN.{length, take};
-ghost use Rattle.model.proofs.Latest.{Asc};
-ghost use Rattle.model.proofs.Ancestry.{Falls, find};
-ghost use Rattle.rows.specs.Rows.{branchRowsOf, recordRowsOf};
-ghost use Rattle.model.proofs.ByNumber.{newestOf};
+ghost use lib.ListN.{take};
+ghost use Rattle.model.specs.ByNumber.{Asc, Falls, find, newestOf};
+ghost use Rattle.rows.specs.Rows.{branchRowsOf, recordRowsOf, BranchesIn, RecordsIn};
 ghost use Rattle.lookup.specs.Order.{upTo};
 ghost use Rattle.rows.specs.View.{foundOf};
 
 // How many of the first n records stand up to (a, t), itself included.
 pub fn up_to(rt: &[u32], n: usize, a: u32, t: u32) -> usize
-    requires { ⌜ n * 3 ≤ length (now rt) ⌝ }
+    requires { ⌜ RecordsIn n (now rt) ⌝ }
     requires { ⌜ Asc (take n (recordRowsOf (now rt))) ⌝ }
     ensures { λ r. ⌜ r ≡ upTo a t (take n (recordRowsOf (now (rt .entry)))) ⌝ }
 {
@@ -36,7 +33,7 @@ pub fn up_to(rt: &[u32], n: usize, a: u32, t: u32) -> usize
 
 // The record that the address a has at a moment, of nb branches and nr records: Figure 1.
 pub fn find_record(bt: &[u32], nb: usize, rt: &[u32], nr: usize, a: u32, when: u32) -> Found
-    requires { ⌜ (nb * 3 ≤ length (now bt)) × (nr * 3 ≤ length (now rt)) ⌝ }
+    requires { ⌜ BranchesIn nb (now bt) × RecordsIn nr (now rt) ⌝ }
     requires { ⌜ Asc (take nr (recordRowsOf (now rt))) ⌝ }
     requires { ⌜ Falls (newestOf (branchRowsOf (now bt)) nb) ⌝ }
     ensures { λ r. ⌜ foundOf r ≡ find (take nr (recordRowsOf (now (rt .entry)))) a (newestOf (branchRowsOf (now (bt .entry))) nb) when ⌝ }

@@ -1,17 +1,18 @@
 -- Laws of branch rows and of ancestries. SoundRows stand newest first.
-use Prim.Native.Nat.{ℕ, _+_, _≤_, _<_}
+use Prim.Native.Nat.{ℕ, _≤_, _<_}
 use mathlib.Core.Path.{_≡_, refl}
 use mathlib.Core.Logic.{_⊎_, inl, inr}
 use mathlib.Core.List.{List, [], _∷_}
-use mathlib.Core.Option.{Option, some}
+use mathlib.Core.Option.{some}
 use mathlib.Core.Bool.{Bool, true, false, cond, false≢true}
 use native.Mathlib.Omega.{arith}
 use lib.Dec.{leb, eqb}
 use borrow.Author.Tests.{leb-true, le-leb, eq-eqb}
 use Rattle.model.specs.declared.Branch.{Branch}
 use Rattle.model.specs.declared.Record.{Record}
-use Rattle.model.specs.Store.{keep, any, open-end, _∈_}
+use Rattle.model.specs.Store.{keep, any, _∈_}
 use Rattle.model.specs.Lookup.{holds, ancestry, orElse, latest, firstFound, inAncestry}
+use Rattle.model.specs.ByNumber.{Link, Chain, Falls, find}
 use Rattle.model.proofs.Base.{case, and→, →and}
 use Rattle.model.proofs.Latest.{orElse→, Within, latest→}
 
@@ -36,32 +37,6 @@ not-holds b t l =
     let h : Holds b t = holds→ b t e in
     absurd (omega arith))
     (λ e. e)
-
--- sound rows
-pub record First (b : Branch) : Type 0 where
-  pub start : b .start ≡ 0
-  pub cut : b .cut ≡ 0
-  pub ordered : b .start ≤ b .end
-
-pub record Link (floor : ℕ) (b c : Branch) (earlier : List Branch) : Type 0 where
-  pub ordered : b .start ≤ b .end
-  pub after : c .end < b .start
-  pub follows : floor < b .start → b .start ≡ c .end + 1
-  pub parent : any (λ d. holds d (b .cut)) (c ∷ earlier) ≡ true
-
-abbrev pub Chain : ℕ → List Branch → Type 0
-Chain floor [] = ⊥
-Chain floor (b ∷ []) = First b
-Chain floor (b ∷ c ∷ earlier) = Link floor b c earlier × Chain floor (c ∷ earlier)
-
--- the newest row is open and begun
-pub record Open (now : ℕ) (b : Branch) : Type 0 where
-  pub still : b .end ≡ open-end
-  pub begun : b .start ≤ now
-
-abbrev pub SoundRows : ℕ → ℕ → List Branch → Type 0
-SoundRows floor now [] = ⊥
-SoundRows floor now (b ∷ earlier) = Open now b × Chain floor (b ∷ earlier)
 
 pub any-cons : (b : Branch) (bs : List Branch) (x : ℕ) → any (λ d. holds d x) (b ∷ bs) ≡ true → (holds b x ≡ true) ⊎ (any (λ d. holds d x) bs ≡ true)
 unfolding any
@@ -92,11 +67,6 @@ held-below floor b (c ∷ bs) x h e =
           omega arith
     ]
 
--- a cut is at most its row's start
-abbrev pub Falls : List Branch → Type 0
-Falls [] = Unit {0}
-Falls (b ∷ bs) = (b .cut ≤ b .start) × Falls bs
-
 pub falls : (floor : ℕ) (bs : List Branch) → Chain floor bs → Falls bs
 falls floor [] h = absurd h
 falls floor (b ∷ []) h = (omega arith, tt)
@@ -104,10 +74,6 @@ falls floor (b ∷ c ∷ bs) h =
     let below : b .cut ≤ c .end = held-below floor c bs (b .cut) (h .1) (h .0 .parent) in
     let l : Link floor b c bs = h .0 in
     (omega arith, falls floor (c ∷ bs) (h .1))
-
--- Figure 1 over a list of rows
-abbrev pub find : List Record → ℕ → List Branch → ℕ → Option Record
-find rs a bs t = firstFound rs a (ancestry bs t)
 
 pub find-hold : (rs : List Record) (a : ℕ) (b : Branch) (bs : List Branch) (t : ℕ) → holds b t ≡ true
     → find rs a (b ∷ bs) t ≡ orElse (latest rs a (b .start) t) (find rs a bs (b .cut))

@@ -11,7 +11,8 @@ use Rattle.model.specs.declared.Branch.{Branch}
 use Rattle.model.specs.Store.{keep, any, open-end, _∈_}
 use Rattle.model.specs.Lookup.{holds, ancestry, inAncestry, someReadable}
 use Rattle.model.proofs.Base.{case, absurd-test, keep-true, keep-false, keep-one, mem-keep, keep-mem, any-mem, someReadable-intro, someReadable-elim}
-use Rattle.model.proofs.Ancestry.{→holds, not-holds, Link, Chain, Open, SoundRows, any-cons, chain-ordered, inAncestry-hold, inAncestry-skip, inAncestry-here, inAncestry-next, startKept}
+use Rattle.model.proofs.Ancestry.{→holds, not-holds, any-cons, chain-ordered, inAncestry-hold, inAncestry-skip, inAncestry-here, inAncestry-next, startKept}
+use Rattle.model.specs.ByNumber.{Link, Chain, Open, SoundRows}
 
 pub record Below (b d : Branch) : Type 0 where
   pub ordered : d .start ≤ d .end
@@ -156,26 +157,27 @@ module _ (κ : ℕ → Bool) (floor floor′ : ℕ) (rises : floor ≤ floor′)
           absurd (omega arith))
 
 -- the starts of rows on the ancestry from a readable moment
-abbrev pub starts : List Branch → ℕ → ℕ → ℕ → Bool
-starts bs floor now x = someReadable floor now (λ t. inAncestry bs t x)
+abbrev pub starts : List Branch → (ℕ → Bool) → ℕ → ℕ → Bool
+starts bs ρ now x = someReadable ρ now (λ t. inAncestry bs t x)
 
-pub rows-keep : (bs : List Branch) (floor now m : ℕ) → now ≤ open-end → floor ≤ m → m ≤ now → SoundRows floor now bs
-    → SoundRows m now (keep (startKept (starts bs m now)) bs)
-rows-keep [] floor now m i j l h = absurd h
-rows-keep (b ∷ bs) floor now m i j l h =
+-- readable are the moments of ρ, among them those from the floor to now
+pub rows-keep : (bs : List Branch) (ρ : ℕ → Bool) (floor now m : ℕ) → ((t : ℕ) → m ≤ t → ρ t ≡ true) → now ≤ open-end → floor ≤ m → m ≤ now → SoundRows floor now bs
+    → SoundRows m now (keep (startKept (starts bs ρ now)) bs)
+rows-keep [] ρ floor now m g i j l h = absurd h
+rows-keep (b ∷ bs) ρ floor now m g i j l h =
     let o : Open now b = h .0 in
     let hn : holds b now ≡ true = →holds b now (omega arith) (omega arith) in
-    let κ : ℕ → Bool = starts (b ∷ bs) m now in
-    let k : κ (b .start) ≡ true = someReadable-intro m now _ now l (omega arith) (inAncestry-here b bs now hn) in
-    let q : Asked κ m now b bs (λ t. (m ≤ t) × (t ≤ now)) =
+    let κ : ℕ → Bool = starts (b ∷ bs) ρ now in
+    let k : κ (b .start) ≡ true = someReadable-intro ρ now _ now (g now l) (omega arith) (inAncestry-here b bs now hn) in
+    let q : Asked κ m now b bs (λ t. (ρ t ≡ true) × (t ≤ now)) =
     record {
-      keeps = λ t x p w. someReadable-intro m now _ t (p .0) (p .1) w;
+      keeps = λ t x p w. someReadable-intro ρ now _ t (p .0) (p .1) w;
       kept =
           λ x p e.
-          let r : (t : ℕ) × (m ≤ t) × (t ≤ now) × (inAncestry (b ∷ bs) t x ≡ true) = someReadable-elim m now _ e in
+          let r : (t : ℕ) × (ρ t ≡ true) × (t ≤ now) × (inAncestry (b ∷ bs) t x ≡ true) = someReadable-elim ρ now _ e in
           (r .0, (r .1, r .2), r .3);
-      readable = λ t p s. (p, s);
-      some-held = (now, (l, omega arith), any-mem (λ d. holds d now) b (b ∷ bs) (inl refl) hn);
+      readable = λ t p s. (g t p, s);
+      some-held = (now, (g now l, omega arith), any-mem (λ d. holds d now) b (b ∷ bs) (inl refl) hn);
     } in
     let c : Chain m (keep (startKept κ) (b ∷ bs)) = chain-keep κ floor m j b bs now _ (h .1) (o .begun) q in
     let e : keep (startKept κ) (b ∷ bs) ≡ b ∷ keep (startKept κ) bs = keep-true (startKept κ) b bs k in

@@ -1,15 +1,15 @@
 -- What the proofs share: tests, membership, what is kept of a list, moments.
-use Prim.Native.Nat.{ℕ, zero, suc, _≤_}
-use mathlib.Core.Path.{_≡_, refl, sym, _∙_}
+use Prim.Native.Nat.{ℕ, zero, suc, _≤_, _<_}
+use mathlib.Core.Path.{_≡_, refl, sym, ap, _∙_}
 use mathlib.Core.Logic.{_⊎_, inl, inr}
-use mathlib.Core.List.{List, [], _∷_, _++_, reverse, reverseAux}
+use mathlib.Core.List.{List, [], _∷_, _++_, map, reverse, reverseAux}
 use mathlib.Core.Bool.{Bool, true, false, _&&_, _||_, and-eq-true-iff, false≢true}
 use native.Mathlib.Omega.{arith}
-use lib.Dec.{leb, eqb}
-use lib.ListN.{length}
+use lib.Dec.{eqb}
+use lib.ListN.{length, getD, set, take, drop, replicate, take-append-drop}
 use borrow.Author.Tests.{leb-true, eqb-true, eqb-false, le-leb}
 use Rattle.model.specs.Store.{keep, any, _∈_}
-use Rattle.model.specs.Lookup.{anyUpTo, someReadable}
+use Rattle.model.specs.Lookup.{anyUpTo, isReadable, someReadable}
 
 pub case : {C : Type 0} (b : Bool) → (b ≡ true → C) → (b ≡ false → C) → C
 case true f g = f refl
@@ -109,6 +109,62 @@ module _ {A : Type 0} where
       let ih : (x : A) × (x ∈ ys) × (k x ≡ true) = mem-any k ys (rw d at e) in
       (ih .0, inr (ih .1), ih .2))
 
+  pub any-append : (k : A → Bool) (xs ys : List A) → any k (xs ++ ys) ≡ (any k xs || any k ys)
+  unfolding any
+  any-append k [] ys = refl
+  any-append k (x ∷ xs) ys = case (k x) (λ d. rw d) (λ d. rw d (any-append k xs ys))
+
+  -- membership in a list that is put together
+  pub mem-left : (x : A) (xs ys : List A) → x ∈ xs → x ∈ (xs ++ ys)
+  mem-left x (y ∷ xs) ys (inl e) = inl e
+  mem-left x (y ∷ xs) ys (inr m) = inr (mem-left x xs ys m)
+
+  pub mem-right : (x : A) (xs ys : List A) → x ∈ ys → x ∈ (xs ++ ys)
+  mem-right x [] ys m = m
+  mem-right x (y ∷ xs) ys m = inr (mem-right x xs ys m)
+
+  pub mem-append : (x : A) (xs ys : List A) → x ∈ (xs ++ ys) → (x ∈ xs) ⊎ (x ∈ ys)
+  mem-append x [] ys m = inr m
+  mem-append x (y ∷ xs) ys (inl e) = inl (inl e)
+  mem-append x (y ∷ xs) ys (inr m) = elim (mem-append x xs ys m) [ inl k ↦ inl (inr k) | inr k ↦ inr k ]
+
+  pub mem-take : (n : ℕ) (x : A) (xs : List A) → x ∈ take n xs → x ∈ xs
+  mem-take n x xs m = rw (take-append-drop n xs) at (mem-left x (take n xs) (drop n xs) m)
+
+  pub mem-drop : (n : ℕ) (x : A) (xs : List A) → x ∈ drop n xs → x ∈ xs
+  mem-drop n x xs m = rw (take-append-drop n xs) at (mem-right x (take n xs) (drop n xs) m)
+
+  pub mem-set : (x : A) (xs : List A) (i : ℕ) (v : A) → x ∈ set xs i v → (x ≡ v) ⊎ (x ∈ xs)
+  mem-set x (y ∷ xs) zero v (inl e) = inl e
+  mem-set x (y ∷ xs) zero v (inr m) = inr (inr m)
+  mem-set x (y ∷ xs) (suc i) v (inl e) = inr (inl e)
+  mem-set x (y ∷ xs) (suc i) v (inr m) = elim (mem-set x xs i v m) [ inl e ↦ inl e | inr k ↦ inr (inr k) ]
+
+  pub mem-replicate : (x : A) (n : ℕ) (z : A) → x ∈ replicate n z → x ≡ z
+  mem-replicate x (suc n) z (inl e) = e
+  mem-replicate x (suc n) z (inr m) = mem-replicate x n z m
+
+  pub mem-map : {B : Type 0} (f : A → B) (x : A) (xs : List A) → x ∈ xs → f x ∈ map f xs
+  mem-map f x (y ∷ xs) (inl e) = inl (ap f e)
+  mem-map f x (y ∷ xs) (inr m) = inr (mem-map f x xs m)
+
+  pub map-mem : {B : Type 0} (f : A → B) (y : B) (xs : List A) → y ∈ map f xs → (x : A) × (x ∈ xs) × (y ≡ f x)
+  map-mem f y (x ∷ xs) (inl e) = (x, inl refl, e)
+  map-mem f y (x ∷ xs) (inr m) =
+      let ih : (z : A) × (z ∈ xs) × (y ≡ f z) = map-mem f y xs m in
+      (ih .0, inr (ih .1), ih .2)
+
+  pub getD-mem : (xs : List A) (i : ℕ) (z : A) → i < length xs → getD xs i z ∈ xs
+  getD-mem [] i z l = absurd (omega arith)
+  getD-mem (x ∷ xs) zero z l = inl refl
+  getD-mem (x ∷ xs) (suc i) z l = inr (getD-mem xs i z (omega arith))
+
+  pub mem-getD : (x : A) (xs : List A) (z : A) → x ∈ xs → (i : ℕ) × (i < length xs) × (getD xs i z ≡ x)
+  mem-getD x (y ∷ xs) z (inl e) = (0, omega arith, sym e)
+  mem-getD x (y ∷ xs) z (inr m) =
+      let ih : (i : ℕ) × (i < length xs) × (getD xs i z ≡ x) = mem-getD x xs z m in
+      (suc (ih .0), omega (arith, ih .1), ih .2)
+
   -- one newest-first step of reversing
   reverseAux-append : (xs ys zs : List A) → reverseAux (xs ++ ys) zs ≡ reverseAux ys (reverseAux xs zs)
   reverseAux-append [] ys zs = refl
@@ -155,21 +211,33 @@ anyUpTo-elim f (suc n) e =
           (ih .0, omega (arith, ih .1), ih .2)
     ]
 
-pub someReadable-intro : (lo hi : ℕ) (f : ℕ → Bool) (t : ℕ) → lo ≤ t → t ≤ hi → f t ≡ true → someReadable lo hi f ≡ true
-someReadable-intro lo hi f t h l e = anyUpTo-intro (λ u. leb lo u && f u) hi t l (→and (le-leb lo t h) e)
+pub someReadable-intro : (ρ : ℕ → Bool) (hi : ℕ) (f : ℕ → Bool) (t : ℕ) → ρ t ≡ true → t ≤ hi → f t ≡ true → someReadable ρ hi f ≡ true
+someReadable-intro ρ hi f t h l e = anyUpTo-intro (λ u. ρ u && f u) hi t l (→and h e)
 
-pub someReadable-elim : (lo hi : ℕ) (f : ℕ → Bool) → someReadable lo hi f ≡ true → (t : ℕ) × (lo ≤ t) × (t ≤ hi) × (f t ≡ true)
-someReadable-elim lo hi f e =
-    let r : (t : ℕ) × (t ≤ hi) × ((leb lo t && f t) ≡ true) = anyUpTo-elim (λ u. leb lo u && f u) hi e in
-    let q : (leb lo (r .0) ≡ true) × (f (r .0) ≡ true) = and→ (leb lo (r .0)) (f (r .0)) (r .2) in
-    (r .0, leb-true lo (r .0) (q .0), r .1, q .1)
+pub someReadable-elim : (ρ : ℕ → Bool) (hi : ℕ) (f : ℕ → Bool) → someReadable ρ hi f ≡ true → (t : ℕ) × (ρ t ≡ true) × (t ≤ hi) × (f t ≡ true)
+someReadable-elim ρ hi f e =
+    let r : (t : ℕ) × (t ≤ hi) × ((ρ t && f t) ≡ true) = anyUpTo-elim (λ u. ρ u && f u) hi e in
+    let q : (ρ (r .0) ≡ true) × (f (r .0) ≡ true) = and→ (ρ (r .0)) (f (r .0)) (r .2) in
+    (r .0, q .0, r .1, q .1)
 
-pub someReadable-same : (lo hi : ℕ) (f g : ℕ → Bool) → ((t : ℕ) → lo ≤ t → t ≤ hi → f t ≡ g t) → someReadable lo hi f ≡ someReadable lo hi g
-someReadable-same lo hi f g h =
-    same-test (someReadable lo hi f) (someReadable lo hi g)
-    (λ e.
-    let r : (t : ℕ) × (lo ≤ t) × (t ≤ hi) × (f t ≡ true) = someReadable-elim lo hi f e in
-    someReadable-intro lo hi g (r .0) (r .1) (r .2) (sym (h (r .0) (r .1) (r .2)) ∙ r .3))
-    (λ e.
-    let r : (t : ℕ) × (lo ≤ t) × (t ≤ hi) × (g t ≡ true) = someReadable-elim lo hi g e in
-    someReadable-intro lo hi f (r .0) (r .1) (r .2) (h (r .0) (r .1) (r .2) ∙ r .3))
+pub someReadable-same : (ρ : ℕ → Bool) (hi : ℕ) (f g : ℕ → Bool) → ((t : ℕ) → ρ t ≡ true → t ≤ hi → f t ≡ g t) → someReadable ρ hi f ≡ someReadable ρ hi g
+someReadable-same ρ hi f g h =
+    same-test (someReadable ρ hi f) (someReadable ρ hi g) (carried f g h) (carried g f (λ t i j. sym (h t i j)))
+  where
+    carried : (f g : ℕ → Bool) → ((t : ℕ) → ρ t ≡ true → t ≤ hi → f t ≡ g t) → someReadable ρ hi f ≡ true → someReadable ρ hi g ≡ true
+    carried f g h e =
+        let r : (t : ℕ) × (ρ t ≡ true) × (t ≤ hi) × (f t ≡ true) = someReadable-elim ρ hi f e in
+        someReadable-intro ρ hi g (r .0) (r .1) (r .2) (sym (h (r .0) (r .1) (r .2)) ∙ r .3)
+
+-- readable are the moments from the floor on
+pub readable-above : (floor t : ℕ) → floor ≤ t → isReadable floor t ≡ true
+unfolding isReadable
+readable-above floor t h = le-leb floor t h
+
+pub readable→ : (floor t : ℕ) → isReadable floor t ≡ true → floor ≤ t
+unfolding isReadable
+readable→ floor t e = leb-true floor t e
+
+-- what a higher floor leaves readable was readable
+pub readable-less : (floor floor′ t : ℕ) → floor ≤ floor′ → isReadable floor′ t ≡ true → isReadable floor t ≡ true
+readable-less floor floor′ t l e = readable-above floor t (omega (arith, readable→ floor′ t e))

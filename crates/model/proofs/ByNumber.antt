@@ -1,7 +1,7 @@
 -- Sound tables by row number: what the code's loops go by.
 use mathlib.Core.Path.{_≡_, refl, sym, _∙_}
 use mathlib.Core.Logic.{_⊎_, inl, inr}
-use mathlib.Core.List.{List, [], _∷_, reverse}
+use mathlib.Core.List.{List, [], _∷_}
 use mathlib.Core.Bool.{Bool, true, false}
 use Prim.Native.Nat.{ℕ, zero, suc, _+_, _≤_, _<_}
 use native.Mathlib.Nat.{not-suc-le-zero}
@@ -14,26 +14,16 @@ use borrow.Author.Tests.{eqb-true, eqb-false}
 use Rattle.model.specs.declared.Branch.{Branch}
 use Rattle.model.specs.declared.Record.{Record}
 use Rattle.model.specs.Store.{zero-branch, zero-record, any, open-end, _∈_}
-use Rattle.model.specs.Lookup.{holds}
 use Rattle.model.specs.Soundness.{used, inUse, precedes}
-use Rattle.model.proofs.Base.{case, reverse-snoc}
-use Rattle.model.proofs.Latest.{Before, precedes→, Asc}
-use Rattle.model.proofs.Ancestry.{Link, Chain, SoundRows, chain-ordered}
-use Rattle.model.proofs.Moves.{covered}
-use Rattle.model.proofs.Places.{count, one, count-cons, count-set, Named, named-set, clear}
-
--- a row by its number
-abbrev pub branch : List Branch → ℕ → Branch
-branch bs i = getD bs i zero-branch
-
-abbrev pub entry : List Record → ℕ → Record
-entry rs i = getD rs i zero-record
+use Rattle.model.proofs.Base.{case, reverse-snoc, getD-mem}
+use Rattle.model.proofs.Latest.{Before, precedes→}
+use Rattle.model.specs.ByNumber.{Asc, Link, Chain, SoundRows, Named, branch, entry, newestOf, held, Line, Ascend, Names}
+use Rattle.model.proofs.Ancestry.{chain-ordered}
+use Rattle.model.proofs.Moves.{rows-covered}
+use Rattle.model.proofs.Places.{count, one, count-cons, count-set, named-set, clear}
 
 -- the first n rows, newest first
 module _ {A : Type 0} where
-  abbrev pub newestOf : List A → ℕ → List A
-  newestOf rows n = reverse (take n rows)
-
   pub top : (rows : List A) (i : ℕ) (d : A) → i < length rows → newestOf rows (suc i) ≡ getD rows i d ∷ newestOf rows i
   top rows i d h = rw (take-suc rows i d h) (reverse-snoc (take i rows) (getD rows i d))
 
@@ -54,31 +44,6 @@ module _ {A : Type 0} where
     unfolding any
     any-no zero l h = refl
     any-no (suc n) l h = rw (top rows n d l, h n (omega arith)) (any-no n (omega arith) (λ i m. h i (omega arith)))
-
--- one of the first n branches holds the moment
-unfoldable pub held : List Branch → ℕ → ℕ → Bool
-held bs n t = any (λ d. holds d t) (newestOf bs n)
-
--- n branches follow one another
-pub record Stairs (bs : List Branch) (n : ℕ) : Type 0 where
-  pub ordered : (i : ℕ) → i < n → branch bs i .start ≤ branch bs i .end
-  pub apart : (i j : ℕ) → i < j → j < n → branch bs i .end < branch bs j .start
-
--- n branches in order, each but the first cut from an earlier one
-pub record Line (bs : List Branch) (n : ℕ) : Type 0 where
-  pub stairs : Stairs bs n
-  pub parent : (i : ℕ) → 0 < i → i < n → held bs i (branch bs i .cut) ≡ true
-
--- n records ascend strictly by address, then by moment
-pub record Ascend (rs : List Record) (n : ℕ) : Type 0 where
-  pub addresses : (i j : ℕ) → i < j → j < n → entry rs i .address ≤ entry rs j .address
-  pub moments : (i j : ℕ) → i < j → j < n → entry rs i .address ≡ entry rs j .address → entry rs i .moment < entry rs j .moment
-
--- the place row of each of n records names it, and no other row names one
-pub record Names (rs : List Record) (n : ℕ) (ps : List ℕ) : Type 0 where
-  pub inside : (k : ℕ) → k < n → entry rs k .place < length ps
-  pub row : (k : ℕ) → k < n → getD ps (entry rs k .place) 0 ≡ suc k
-  pub only : (q v : ℕ) → getD ps q 0 ≡ suc v → (v < n) × (entry rs v .place ≡ q)
 
 -- rows
 module _ (floor : ℕ) (bs : List Branch) where
@@ -123,13 +88,9 @@ module _ (floor : ℕ) (bs : List Branch) where
     chain-line = record { stairs = record { ordered = ordered-at; apart = apart-at }; parent = parent-at }
 
 -- a readable moment is in one of the rows
-held-rows : (floor now m : ℕ) (bs : List Branch) → SoundRows floor now bs → now ≤ open-end → floor ≤ m → m ≤ now → any (λ d. holds d m) bs ≡ true
-held-rows floor now m [] h n i j = absurd h
-held-rows floor now m (b ∷ bs) h n i j = covered floor b bs m (h .1) i (omega (arith, h .0 .still))
-
 pub held-by : (floor now m : ℕ) (bs : List Branch) (n : ℕ) → SoundRows floor now (newestOf bs n) → now ≤ open-end → floor ≤ m → m ≤ now → held bs n m ≡ true
 unfolding held
-held-by floor now m bs n h a i j = held-rows floor now m (newestOf bs n) h a i j
+held-by floor now m bs n h a i j = rows-covered floor now m (newestOf bs n) h a i j
 
 chain-of : (floor now : ℕ) (bs : List Branch) → SoundRows floor now bs → Chain floor bs
 chain-of floor now [] h = absurd h
@@ -139,11 +100,6 @@ pub rows-line : (floor now : ℕ) (bs : List Branch) (n : ℕ) → n ≤ length 
 rows-line floor now bs n l h = chain-line floor bs n l (chain-of floor now (newestOf bs n) h)
 
 -- records
-pub getD-mem : {A : Type 0} (xs : List A) (i : ℕ) (z : A) → i < length xs → getD xs i z ∈ xs
-getD-mem [] i z l = absurd (omega arith)
-getD-mem (x ∷ xs) zero z l = inl refl
-getD-mem (x ∷ xs) (suc i) z l = inr (getD-mem xs i z (omega arith))
-
 asc-at : (xs : List Record) → Asc xs → (i j : ℕ) → i < j → j < length xs → precedes (getD xs i zero-record) (getD xs j zero-record) ≡ true
 asc-at [] h i j a b = absurd (omega arith)
 asc-at (x ∷ xs) h i zero a b = absurd (omega arith)

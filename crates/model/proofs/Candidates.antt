@@ -1,8 +1,8 @@
 -- Readable moments that decide a reclaim: the floor, and each row's start above it. So a program need not try them all.
 use Prim.Native.Nat.{ℕ, _≤_, _<_}
-use mathlib.Core.Path.{_≡_, refl, sym, ap, _∙_}
+use mathlib.Core.Path.{_≡_, refl, sym, _∙_}
 use mathlib.Core.Logic.{_⊎_, inl, inr}
-use mathlib.Core.List.{List, [], _∷_, map}
+use mathlib.Core.List.{List, [], _∷_}
 use mathlib.Core.Option.{some, none}
 use mathlib.Core.Bool.{true, false, _||_, false≢true}
 use native.Mathlib.Omega.{arith}
@@ -11,17 +11,14 @@ use borrow.Author.Tests.{ltb-true, ltb-false, leb-true, leb-false, eq-eqb, lt-lt
 use Rattle.model.specs.declared.Branch.{Branch}
 use Rattle.model.specs.declared.Record.{Record}
 use Rattle.model.specs.Store.{Store, newest, records, keep, any, _∈_}
-use Rattle.model.specs.Lookup.{holds, within, orElse, latest, lookup, isAt, isGiven, inAncestry, isAncestor}
-use Rattle.model.proofs.Base.{case, or→, same-test, absurd-test, keep-mem, mem-keep, any-mem, mem-any, someReadable-intro, someReadable-elim}
-use Rattle.model.proofs.Latest.{caseOption, Within, within→, →within, not-within, latest-top, Asc}
-use Rattle.model.proofs.Ancestry.{Holds, holds→, →holds, not-holds, Link, Chain, SoundRows, held-below, find, find-hold, find-skip, inAncestry-hold, inAncestry-skip}
+use Rattle.model.specs.Lookup.{holds, within, orElse, latest, lookup, isAt, isReadable, isGiven, inAncestry, isAncestor}
+use Rattle.model.proofs.Base.{case, or→, same-test, absurd-test, keep-mem, mem-keep, any-mem, mem-any, mem-map, map-mem, someReadable-intro, someReadable-elim, readable-above, readable→}
+use Rattle.model.proofs.Latest.{caseOption, Within, within→, →within, not-within, latest-top}
+use Rattle.model.specs.ByNumber.{Asc, Link, Chain, SoundRows, find, Fits, Sound, candidates}
+use Rattle.model.proofs.Ancestry.{Holds, holds→, →holds, not-holds, held-below, find-hold, find-skip, inAncestry-hold, inAncestry-skip}
 use Rattle.model.proofs.AncestryKept.{Below, earlier-below}
-use Rattle.model.proofs.Invariant.{Fits, Sound}
 use Rattle.model.proofs.Moves.{covered}
 use Rattle.model.proofs.Reclaiming.{Given, given→, →given}
-
-abbrev pub candidates : ℕ → List Branch → List ℕ
-candidates m bs = m ∷ map (λ b. b .start) (keep (λ b. ltb m (b .start)) bs)
 
 -- t′ is a candidate, at most t, and in the row of t
 record Candidate (m t : ℕ) (bs : List Branch) : Type 0 where
@@ -142,16 +139,6 @@ candidate floor m t b (c ∷ bs) h l e =
     let k : Link floor b c bs = h .0 in
     candidate-before m t b (c ∷ bs) (ih e′) (omega arith))
 
-mem-map : (f : Branch → ℕ) (b : Branch) (bs : List Branch) → b ∈ bs → f b ∈ map f bs
-mem-map f b (c ∷ bs) (inl e) = inl (ap f e)
-mem-map f b (c ∷ bs) (inr m) = inr (mem-map f b bs m)
-
-map-mem : (f : Branch → ℕ) (x : ℕ) (bs : List Branch) → x ∈ map f bs → (b : Branch) × (b ∈ bs) × (x ≡ f b)
-map-mem f x (c ∷ bs) (inl e) = (c, inl refl, e)
-map-mem f x (c ∷ bs) (inr m) =
-    let ih : (b : Branch) × (b ∈ bs) × (x ≡ f b) = map-mem f x bs m in
-    (ih .0, inr (ih .1), ih .2)
-
 listed-mem : (m t : ℕ) (bs : List Branch) (k : Candidate m t bs) → k .moment ∈ candidates m bs
 listed-mem m t bs k =
     elim (k .listed) [
@@ -191,14 +178,14 @@ module _ (s : Store) (m : ℕ) (h : Sound s) (l : s .head .floor ≤ m) (u : m �
   ancestor-candidates b =
       same-test _ _
       (λ e.
-      let g : (t : ℕ) × (m ≤ t) × (t ≤ s .head .now) × (inAncestry (newest s) t (b .start) ≡ true) = someReadable-elim m (s .head .now) _ e in
-      let k : Candidate m (g .0) (newest s) = rows-candidate _ _ m (g .0) (newest s) (h .rows) (h .sizes .now-high) l (g .1) (g .2) in
+      let g : (t : ℕ) × (isReadable m t ≡ true) × (t ≤ s .head .now) × (inAncestry (newest s) t (b .start) ≡ true) = someReadable-elim (isReadable m) (s .head .now) _ e in
+      let k : Candidate m (g .0) (newest s) = rows-candidate _ _ m (g .0) (newest s) (h .rows) (h .sizes .now-high) l (readable→ m (g .0) (g .1)) (g .2) in
       any-mem (λ t. inAncestry (newest s) t (b .start)) (k .moment) (candidates m (newest s)) (listed-mem m (g .0) (newest s) k)
       (sym (k .ancestries (b .start)) ∙ g .3))
       (λ e.
       let g : (t : ℕ) × (t ∈ candidates m (newest s)) × (inAncestry (newest s) t (b .start) ≡ true) = mem-any _ (candidates m (newest s)) e in
       let i : (m ≤ g .0) × (g .0 ≤ s .head .now) = rows-started _ _ m (g .0) (newest s) (h .rows) u (g .1) in
-      someReadable-intro m (s .head .now) (λ t. inAncestry (newest s) t (b .start)) (g .0) (i .0) (i .1) (g .2))
+      someReadable-intro (isReadable m) (s .head .now) (λ t. inAncestry (newest s) t (b .start)) (g .0) (readable-above m (g .0) (i .0)) (i .1) (g .2))
 
   -- a counted record is given exactly if it is not older than the new floor, or a candidate gives it
   pub given-candidates : (r : Record) → r ∈ records s
@@ -212,7 +199,7 @@ module _ (s : Store) (m : ℕ) (h : Sound s) (l : s .head .floor ≤ m) (u : m �
       (λ d.
       let o : r .moment < m = leb-false m (r .moment) d in
       let g : Given s m r = given→ s m h l u r c e in
-      let k : Candidate m (g .moment) (newest s) = rows-candidate _ _ m (g .moment) (newest s) (h .rows) (h .sizes .now-high) l (g .low) (g .high) in
+      let k : Candidate m (g .moment) (newest s) = rows-candidate _ _ m (g .moment) (newest s) (h .rows) (h .sizes .now-high) l (readable→ m (g .moment) (g .low)) (g .high) in
       let f : lookup s (r .address) (k .moment) ≡ some r = k .finds (records s) (r .address) r o (g .found) in
       rw d
       (any-mem (λ t. isAt (r .moment) (lookup s (r .address) t)) (k .moment) (candidates m (newest s)) (listed-mem m (g .moment) (newest s) k)
@@ -221,10 +208,10 @@ module _ (s : Store) (m : ℕ) (h : Sound s) (l : s .head .floor ≤ m) (u : m �
       elim (or→ (leb m (r .moment)) (any (λ t. isAt (r .moment) (lookup s (r .address) t)) (candidates m (newest s))) e) [
         | inl d ↦
             let f : Fits (s .head .size) (s .head .now) (newest s) r = h .fits r c in
-            →given s m h l u (r .address) (r .moment) r (leb-true m (r .moment) d) (f .moment)
+            →given s m h l u (r .address) (r .moment) r (readable-above m (r .moment) (leb-true m (r .moment) d)) (f .moment)
             (find-own (records s) (newest s) r (h .ascends) c (f .held))
         | inr d ↦
             let g : (t : ℕ) × (t ∈ candidates m (newest s)) × (isAt (r .moment) (lookup s (r .address) t) ≡ true) = mem-any _ (candidates m (newest s)) d in
             let i : (m ≤ g .0) × (g .0 ≤ s .head .now) = rows-started _ _ m (g .0) (newest s) (h .rows) u (g .1) in
-            someReadable-intro m (s .head .now) (λ t. isAt (r .moment) (lookup s (r .address) t)) (g .0) (i .0) (i .1) (g .2)
+            someReadable-intro (isReadable m) (s .head .now) (λ t. isAt (r .moment) (lookup s (r .address) t)) (g .0) (readable-above m (g .0) (i .0)) (i .1) (g .2)
       ])

@@ -14,10 +14,8 @@ use Rattle.model.specs.Store.{Store, newest, records, any, open-end, _�
 use Rattle.model.specs.Lookup.{holds}
 use Rattle.model.specs.Soundness.{sizesAllowed, between, inRange, chained, openRow, branchesSound, precedes, ascending, placed, used, recordsSound, tableCheck}
 use Rattle.model.proofs.Base.{case, and→, or→}
-use Rattle.model.proofs.Latest.{Asc, precedes-trans}
-use Rattle.model.proofs.Ancestry.{Chain, SoundRows}
-use Rattle.model.proofs.Places.{Named}
-use Rattle.model.proofs.Invariant.{Allowed, Sizes, Fits, Sound}
+use Rattle.model.proofs.Latest.{precedes-trans}
+use Rattle.model.specs.ByNumber.{Asc, Chain, SoundRows, Named, Allowed, Sizes, Fits, Sound}
 
 pub chained→ : (floor : ℕ) (bs : List Branch) → chained floor bs ≡ true → Chain floor bs
 unfolding chained

@@ -15,11 +15,12 @@ use Rattle.model.specs.Batch.{Answered, Run, ended, andThen, run, batch}
 use Rattle.model.specs.Reference.{Reference, empty}
 use Rattle.model.specs.Demand3.{Call, after, answered, next, fed, Readable, readAnswer, AllRight, acceptedReclaim, lastReclaims, Exact, Agrees, Demand3}
 use Rattle.model.proofs.Base.{case}
-use Rattle.model.proofs.Invariant.{Sizes, sound-check, →ascending, Inv}
+use Rattle.model.proofs.Invariant.{sound-check, →ascending, Inv}
+use Rattle.model.specs.ByNumber.{Sizes, Whole}
 use Rattle.model.proofs.Moves.{Stepping}
 use Rattle.model.proofs.Reading.{read-answer, read-leaves}
 use Rattle.model.proofs.Steps.{step-inv}
-use Rattle.model.proofs.Parsing.{Whole, Reads, parse-reads, caseParsed}
+use Rattle.model.proofs.Parsing.{Reads, parse-reads, caseParsed}
 use Rattle.model.proofs.Running.{run-end, run-stop, run-full, run-one, run-stops, batch-run, batch-single, seven}
 use Rattle.model.proofs.Freshness.{made-inv, made-size}
 
@@ -111,7 +112,7 @@ ran-calls s p (c ∷ cs) v =
 module _ (size : ℕ) (s : Store) (p : Reference) (v : Inv s p) (same : s .head .size ≡ size) where
   reads : (a t : ℕ) → a < size → Readable p t → step s (readAt a t) .answer ≡ readAnswer t (p .snapshot t a)
   unfolding step
-  reads a t i r = read-answer s (p .snapshot) a t (v .reads) (omega arith) (omega (arith, v .floor, r .low)) (omega (arith, v .now, r .high))
+  reads a t i r = read-answer s (p .snapshot) a t (v .reads) (omega arith) (rw (v .floor) (r .low)) (omega (arith, v .now, r .high))
 
   sent : (a t space : ℕ) → a < size → Readable p t → length (answerBytes (readAnswer t (p .snapshot t a))) ≤ space
       → batch s (requestBytes (readAt a t)) space ≡ andThen (readAt a t) (readAnswer t (p .snapshot t a)) 7 (ended s 0)
@@ -127,6 +128,7 @@ module _ (size : ℕ) (s : Store) (p : Reference) (v : Inv s p) (same : s .head 
   agree es right exact =
       let k : tableCheck s ≡ 0 = sound-check s (v .sound) in
       record {
+        volume = same;
         now = v .now;
         floor = v .floor;
         held = v .held;

@@ -13,8 +13,9 @@ use Rattle.model.specs.Soundness.{sizesAllowed, used}
 use Rattle.model.specs.Fresh.{freshCheck, fresh, madeFresh}
 use Rattle.model.specs.Reference.{empty}
 use Rattle.model.proofs.Base.{case}
-use Rattle.model.proofs.Ancestry.{find}
-use Rattle.model.proofs.Invariant.{Allowed, Inv}
+use Rattle.model.specs.ByNumber.{find, Allowed}
+use Rattle.model.proofs.Invariant.{Inv}
+use Rattle.model.proofs.Kept.{Small, SmallBranch, SmallRecord, all-set, all-replicate, Narrow, Kept}
 use Rattle.model.proofs.Checked.{sizes→}
 
 fresh-newest : (size nb nr np : ℕ) (slab : List ℕ) → 1 ≤ nb → newest (fresh size nb nr np slab) ≡ record { start = 0; end = open-end; cut = 0 } ∷ []
@@ -74,3 +75,30 @@ module _ (lent : Store) (size : ℕ) (accepted : freshCheck lent size ≡ 0) whe
   pub made-size : madeFresh lent size .head .size ≡ size
   unfolding fresh
   made-size = rw made-is
+
+  -- it has tables and slab as long as what is lent, and numbers of 32 bits
+  pub made-narrow : Narrow (madeFresh lent size)
+  unfolding fresh
+  made-narrow =
+      let m : Allowed size (length (lent .branchRows)) (length (lent .recordRows)) (length (lent .placeRows)) (length (lent .slab)) = sizes→ _ _ _ _ _ allowed in
+      rw made-is
+      (record {
+        head = record { size = omega (arith, m .size-high); branches = omega arith; records = omega arith; now = omega arith; floor = omega arith };
+        branches =
+            all-set 0 _ (all-replicate SmallBranch (length (lent .branchRows)) zero-branch (record { start = omega arith; end = omega arith; cut = omega arith }))
+            (record { start = omega arith; end = omega arith; cut = omega arith });
+        records = all-replicate SmallRecord (length (lent .recordRows)) zero-record (record { address = omega arith; moment = omega arith; place = omega arith });
+        places = all-replicate Small (length (lent .placeRows)) 0 (omega arith);
+      })
+
+  pub made-kept : Kept lent (madeFresh lent size)
+  unfolding fresh
+  made-kept =
+      rw made-is
+      (record {
+        branches = length-set (replicate (length (lent .branchRows)) zero-branch) 0 _ ∙ length-replicate (length (lent .branchRows)) zero-branch;
+        records = length-replicate (length (lent .recordRows)) zero-record;
+        places = length-replicate (length (lent .placeRows)) 0;
+        slab = refl;
+        narrow = λ n. unfold fresh in rw made-is at made-narrow;
+      })

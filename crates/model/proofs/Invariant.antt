@@ -1,5 +1,5 @@
 -- The invariant: sound tables, as statements, and a store against the reference of snapshots.
-use Prim.Native.Nat.{ℕ, suc, _+_, _*_, _≤_, _<_}
+use Prim.Native.Nat.{ℕ, suc, _+_, _*_, _≤_}
 use mathlib.Core.Path.{_≡_, refl}
 use mathlib.Core.Logic.{inl, inr}
 use mathlib.Core.List.{List, [], _∷_, map}
@@ -9,48 +9,13 @@ use lib.ListN.{length, getD}
 use borrow.Author.Tests.{leb-false, lt-ltb, le-leb, eq-eqb}
 use Rattle.model.specs.declared.Branch.{Branch}
 use Rattle.model.specs.declared.Record.{Record}
-use Rattle.model.specs.Store.{Store, branches, newest, records, any, open-end, foundPage, _∈_}
-use Rattle.model.specs.Lookup.{holds, lookup}
+use Rattle.model.specs.Store.{Store, branches, newest, records, open-end, foundPage, _∈_}
+use Rattle.model.specs.Lookup.{lookup, readable}
 use Rattle.model.specs.Soundness.{between, sizesAllowed, inRange, chained, openRow, branchesSound, ascending, placed, used, recordsSound, tableCheck}
 use Rattle.model.specs.Reference.{Snapshot, Reference}
 use Rattle.model.proofs.Base.{case, →and, →or₂}
 use Rattle.model.specs.Demand3.{key}
-use Rattle.model.proofs.Latest.{Asc}
-use Rattle.model.proofs.Ancestry.{Link, Chain, SoundRows}
-use Rattle.model.proofs.Places.{Named}
-
--- the sizes that a store may have
-pub record Allowed (size nb nr np ns : ℕ) : Type 0 where
-  pub size-low : 1 ≤ size
-  pub size-high : size ≤ 65536
-  pub branches-low : 1 ≤ nb
-  pub branches-high : nb ≤ 4096
-  pub records-low : 1 ≤ nr
-  pub records-high : nr ≤ 65536
-  pub places-low : 1 ≤ np
-  pub places-high : np ≤ 65536
-  pub slab : ns ≡ 256 * np
-
-pub record Sizes (s : Store) : Type 0 where
-  pub allowed : Allowed (s .head .size) (length (s .branchRows)) (length (s .recordRows)) (length (s .placeRows)) (length (s .slab))
-  pub counted-low : 1 ≤ s .head .branches
-  pub counted-high : s .head .branches ≤ length (s .branchRows)
-  pub records-counted : s .head .records ≤ length (s .recordRows)
-  pub floor-now : s .head .floor ≤ s .head .now
-  pub now-high : s .head .now ≤ open-end
-
-pub record Fits (size now : ℕ) (bs : List Branch) (r : Record) : Type 0 where
-  pub address : r .address < size
-  pub moment : r .moment ≤ now
-  pub held : any (λ b. holds b (r .moment)) bs ≡ true
-
-pub record Sound (s : Store) : Type 0 where
-  pub sizes : Sizes s
-  pub rows : SoundRows (s .head .floor) (s .head .now) (newest s)
-  pub ascends : Asc (records s)
-  pub fits : (r : Record) → r ∈ records s → Fits (s .head .size) (s .head .now) (newest s) r
-  pub named : Named (s .placeRows) 1 (records s)
-  pub in-use : used (s .placeRows) ≡ s .head .records
+use Rattle.model.specs.ByNumber.{Asc, Link, Chain, SoundRows, Named, Allowed, Sizes, Fits, Sound}
 
 -- such a store passes the table checks
 pub →chained : (floor : ℕ) (bs : List Branch) → Chain floor bs → chained floor bs ≡ true
@@ -121,7 +86,7 @@ sound-check s h =
     rw (a, b, c)
 
 abbrev pub Reads : Store → (ℕ → Snapshot) → Type 0
-Reads s snaps = (a t : ℕ) → s .head .floor ≤ t → t ≤ s .head .now → foundPage (s .slab) (lookup s a t) ≡ snaps t a
+Reads s snaps = (a t : ℕ) → readable s t ≡ true → t ≤ s .head .now → foundPage (s .slab) (lookup s a t) ≡ snaps t a
 
 pub record Inv (s : Store) (p : Reference) : Type 0 where
   pub sound : Sound s

@@ -12,6 +12,7 @@ use Rattle.model.specs.declared.Record.{Record}
 use Rattle.model.specs.Store.{keep, _∈_}
 use Rattle.model.specs.Lookup.{Stage, within, orElse, latest, firstFound}
 use Rattle.model.specs.Soundness.{precedes}
+use Rattle.model.specs.ByNumber.{Asc}
 use Rattle.model.proofs.Base.{case, and→, →and, or→}
 
 pub caseOption : {A C : Type 0} (o : Option A) → (o ≡ none → C) → ((x : A) → o ≡ some x → C) → C
@@ -74,11 +75,6 @@ precedes-trans r q x e d =
       | inl a ↦ elim (o .order) [ inl b ↦ inl (omega arith) | inr b ↦ inl (omega arith) ]
       | inr a ↦ elim (o .order) [ inl b ↦ inl (omega arith) | inr b ↦ inr (omega arith) ]
     ])
-
--- ascending, each against all that follow
-abbrev pub Asc : List Record → Type 0
-Asc [] = Unit {0}
-Asc (r ∷ rs) = ((q : Record) → q ∈ rs → precedes r q ≡ true) × Asc rs
 
 pub latest→ : (rs : List Record) (a lo hi : ℕ) (r : Record) → latest rs a lo hi ≡ some r → (r ∈ rs) × Within a lo hi r
 unfolding latest

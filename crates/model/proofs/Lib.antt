@@ -13,9 +13,13 @@ pub mod Reading
 pub mod Candidates
 pub mod ByNumber
 pub mod Packing
+pub mod Bytes
 pub mod RoundTrip
 pub mod Parsing
 pub mod Steps
 pub mod Running
+pub mod Kept
+pub mod Orders
 pub mod Freshness
 pub mod Demand3
+pub mod Putting

@@ -10,18 +10,19 @@ use native.Mathlib.Numerals.{add-one}
 use lib.Dec.{leb, ltb, eqb, eqb·suc-zero}
 use lib.ListN.{length, getD, set, take, length-set}
 use lib.Seq.{take-suc, take-suc-set}
-use borrow.Author.Tests.{ltb-true, ltb-false, leb-true, leb-false, eqb-true, eqb-false, le-leb}
+use borrow.Author.Tests.{ltb-true, leb-true, leb-false, eqb-true, eqb-false, le-leb}
 use Rattle.model.specs.declared.Branch.{Branch}
 use Rattle.model.specs.declared.Record.{Record}
 use Rattle.model.specs.Store.{Store, branches, newest, records, any, open-end, zero-branch, foundPage, _∈_}
-use Rattle.model.specs.Lookup.{holds, within, orElse, latest, lookup}
+use Rattle.model.specs.Lookup.{holds, within, orElse, latest, lookup, readable}
 use Rattle.model.specs.Wire.{Request, write, mark, revert, readAt, reclaim, refused}
 use Rattle.model.specs.Step.{Stepped, unchanged, doMark, closedAt, branched, doRevert}
 use Rattle.model.specs.Reference.{Snapshot, Reference, withSnapshot, accept, feed}
-use Rattle.model.proofs.Base.{case, absurd-test, reverse-snoc}
+use Rattle.model.proofs.Base.{case, absurd-test, reverse-snoc, readable-above, readable→}
 use Rattle.model.proofs.Latest.{Within, not-within, latest-none, latest-same}
-use Rattle.model.proofs.Ancestry.{→holds, not-holds, Chain, Open, SoundRows, any-head, any-tail, find, find-hold, find-skip}
-use Rattle.model.proofs.Invariant.{Sizes, Fits, Sound, Reads, Inv, referenceOf}
+use Rattle.model.proofs.Ancestry.{→holds, not-holds, any-head, any-tail, find-hold, find-skip}
+use Rattle.model.specs.ByNumber.{Chain, Open, SoundRows, find, Sizes, Fits, Sound}
+use Rattle.model.proofs.Invariant.{Reads, Inv, referenceOf}
 use Rattle.model.specs.Demand3.{refuses, Right, acceptedReclaim, Exact}
 
 -- a request and what it left, against the reference before it
@@ -65,9 +66,9 @@ pub up-to : (s : Store) → Sound s → UpTo (s .head .now) (records s)
 up-to s h r m = h .fits r m .moment
 
 -- now grows by 1, and the new snapshot is a copy of that at src
-sealed-reads : (s : Store) (snaps : ℕ → Snapshot) (look : ℕ → ℕ → Option Record) (src : ℕ) → Reads s snaps → s .head .floor ≤ src → src ≤ s .head .now
-    → ((a t : ℕ) → s .head .floor ≤ t → t ≤ s .head .now → look a t ≡ lookup s a t) → ((a : ℕ) → look a (s .head .now + 1) ≡ lookup s a src)
-    → (a t : ℕ) → s .head .floor ≤ t → t ≤ s .head .now + 1 → foundPage (s .slab) (look a t) ≡ withSnapshot snaps (s .head .now + 1) (snaps src) t a
+sealed-reads : (s : Store) (snaps : ℕ → Snapshot) (look : ℕ → ℕ → Option Record) (src : ℕ) → Reads s snaps → readable s src ≡ true → src ≤ s .head .now
+    → ((a t : ℕ) → readable s t ≡ true → t ≤ s .head .now → look a t ≡ lookup s a t) → ((a : ℕ) → look a (s .head .now + 1) ≡ lookup s a src)
+    → (a t : ℕ) → readable s t ≡ true → t ≤ s .head .now + 1 → foundPage (s .slab) (look a t) ≡ withSnapshot snaps (s .head .now + 1) (snaps src) t a
 sealed-reads s snaps look src r l h old new a t i j =
     case (eqb t (s .head .now + 1))
     (λ e.
@@ -118,7 +119,7 @@ mark-step s snaps h r =
             floor = refl;
             held = refl;
             reads =
-                sealed-reads s snaps (lookup s) (s .head .now) r (z .floor-now) (omega arith) (λ a t i j. refl)
+                sealed-reads s snaps (lookup s) (s .head .now) r (readable-above _ (s .head .now) (z .floor-now)) (omega arith) (λ a t i j. refl)
                 (λ a. mark-find (records s) a _ _ (newest s) l (h .rows) (up-to s h));
           };
       right = λ x. refl;
@@ -157,6 +158,14 @@ covered floor b (c ∷ bs) t h i j =
     let f : b .start ≡ c .end + 1 = h .0 .follows (omega arith) in
     any-tail b (c ∷ bs) t (covered floor c bs t (h .1) i (omega arith)))
 
+-- every readable moment up to now is held
+pub rows-covered : (floor now t : ℕ) (bs : List Branch) → SoundRows floor now bs → now ≤ open-end → floor ≤ t → t ≤ now → any (λ d. holds d t) bs ≡ true
+rows-covered floor now t [] h n i j = absurd h
+rows-covered floor now t (b ∷ bs) h n i j = covered floor b bs t (h .1) i (omega (arith, h .0))
+
+pub readable-held : (s : Store) → Sound s → (t : ℕ) → readable s t ≡ true → t ≤ s .head .now → any (λ d. holds d t) (newest s) ≡ true
+readable-held s h t e l = rows-covered _ _ t (newest s) (h .rows) (h .sizes .now-high) (readable→ _ t e) l
+
 chain-closed : (floor now : ℕ) (b : Branch) (bs : List Branch) → b .start ≤ now → Chain floor (b ∷ bs) → Chain floor (closedAt now b ∷ bs)
 chain-closed floor now b [] l h = record { start = h .start; cut = h .cut; ordered = l }
 chain-closed floor now b (c ∷ bs) l h =
@@ -193,7 +202,7 @@ branching s m k e d l =
       is = rw (d, e, add-one (suc k)) (branched-rows (s .branchRows) k _ _ l);
     }
 
-revert-rows : (floor now m : ℕ) (b : Branch) (bs : List Branch) → now < open-end → floor ≤ m → m < now → SoundRows floor now (b ∷ bs)
+revert-rows : (floor now m : ℕ) (b : Branch) (bs : List Branch) → now < open-end → any (λ d. holds d m) (b ∷ bs) ≡ true → m < now → SoundRows floor now (b ∷ bs)
     → SoundRows floor (now + 1) (begun now m ∷ closedAt now b ∷ bs)
 revert-rows floor now m b bs i j l h =
     let o : Open now b = h .0 in (
@@ -203,7 +212,7 @@ revert-rows floor now m b bs i j l h =
           ordered = omega arith;
           after = omega arith;
           follows = λ x. refl;
-          parent = any-closed b bs now m (omega arith) (omega arith) ∙ covered floor b bs m (h .1) j (omega arith);
+          parent = any-closed b bs now m (omega arith) (omega arith) ∙ j;
         },
         chain-closed floor now b bs (o .begun) (h .1),
       ),
@@ -224,7 +233,7 @@ revert-new rs a now m b bs i l o u =
     find-hold rs a (begun now m) (closedAt now b ∷ bs) (now + 1) (→holds (begun now m) (now + 1) (omega arith) (omega arith))
     ∙ (ap (λ (x : Option Record). orElse x (find rs a (closedAt now b ∷ bs) m)) e ∙ find-closed rs a b bs now m i l)
 
-pub revert-inv : (s : Store) (snaps : ℕ → Snapshot) (m : ℕ) → Sound s → Reads s snaps → s .head .floor ≤ m → m < s .head .now → s .head .now < open-end
+pub revert-inv : (s : Store) (snaps : ℕ → Snapshot) (m : ℕ) → Sound s → Reads s snaps → readable s m ≡ true → m < s .head .now → s .head .now < open-end
     → s .head .branches < length (s .branchRows) → Branching s m → Inv (branched s m) (accept (referenceOf s snaps) (revert m))
 unfolding accept records lookup branched
 revert-inv s snaps m h r i j l c b =
@@ -236,7 +245,7 @@ revert-inv s snaps m h r i j l c b =
       sound =
           record {
             sizes = omega arith;
-            rows = rw (b .is) (revert-rows _ _ m (b .row) (b .earlier) l i j rows);
+            rows = rw (b .is) (revert-rows _ _ m (b .row) (b .earlier) l (rw (b .was) at (readable-held s h m i (omega arith))) j rows);
             ascends = h .ascends;
             fits =
                 λ q k.
@@ -263,8 +272,7 @@ revert-inv s snaps m h r i j l c b =
 pub revert-step : (s : Store) (snaps : ℕ → Snapshot) (m : ℕ) → Sound s → Reads s snaps → Stepping s (referenceOf s snaps) (revert m) (doRevert s m)
 unfolding doRevert feed branched
 revert-step s snaps m h r =
-    case (ltb m (s .head .floor))
-    (λ e. rw e (no 7))
+    case (readable s m)
     (λ e₁.
     case (leb (s .head .now) m)
     (λ e. rw (e₁, e) (no 8))
@@ -278,12 +286,13 @@ revert-step s snaps m h r =
     rw (e₁, e₂, e₃, e₄)
     (record {
       inv =
-          revert-inv s snaps m h r (ltb-false m (s .head .floor) e₁) (leb-false (s .head .now) m e₂) (leb-false open-end (s .head .now) e₃)
+          revert-inv s snaps m h r e₁ (leb-false (s .head .now) m e₂) (leb-false open-end (s .head .now) e₃)
           (leb-false (length (s .branchRows)) (s .head .branches) e₄) (forks (leb-false (length (s .branchRows)) (s .head .branches) e₄));
       right = λ x. refl;
       size = refl;
       exact = λ x. absurd (false≢true x);
     })))))
+    (λ e. rw e (no 7))
   where
     no : (n : ℕ) → Stepping s (referenceOf s snaps) (revert m) (unchanged s (suc n))
     no n = refused-step s snaps h r n (revert m) (λ x. absurd (omega arith))

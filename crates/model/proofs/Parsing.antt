@@ -8,16 +8,9 @@ use lib.Dec.{leb, eqb}
 use lib.ListN.{length, take, drop, length-drop}
 use lib.Seq.{length-take-le}
 use borrow.Author.Tests.{leb-true}
-use Rattle.model.specs.Wire.{Request, write, mark, revert, readAt, reclaim, Parsed, end, stop, one, number, field, writeOf, byOperation, ofWord, parse}
+use Rattle.model.specs.Wire.{Request, Parsed, end, stop, one, number, field, writeOf, byOperation, ofWord, parse}
+use Rattle.model.specs.ByNumber.{Whole}
 use Rattle.model.proofs.Base.{case}
-
--- a request as it is read: its page is whole
-abbrev pub Whole : Request → Type 0
-Whole (write a page) = length page ≡ 256
-Whole mark = Unit {0}
-Whole (revert m) = Unit {0}
-Whole (readAt a m) = Unit {0}
-Whole (reclaim m) = Unit {0}
 
 -- of `size` bytes: a stop is 11, 12 or 13, and a request is whole, takes 7 bytes or more and no more than there are
 abbrev pub Reads : ℕ → Parsed → Type 0

@@ -14,6 +14,7 @@ use Rattle.model.specs.declared.Record.{Record}
 use Rattle.model.specs.Store.{keep, zero-record, _∈_}
 use Rattle.model.specs.Soundness.{used, inUse}
 use Rattle.model.specs.Step.{firstFree, shifted, renumbered}
+use Rattle.model.specs.ByNumber.{Named}
 use Rattle.model.proofs.Base.{case, absurd-test, keep-true, keep-false, keep-append}
 use Rattle.model.proofs.Latest.{caseOption}
 
@@ -66,11 +67,6 @@ count-set f (x ∷ ps) zero v h = omega (arith, count-cons f x ps, count-cons f 
 count-set f (x ∷ ps) (suc p) v h =
     let ih : count f (set ps p v) + one (f (getD ps p 0)) ≡ count f ps + one (f v) = count-set f ps p v (omega arith) in
     omega (arith, count-cons f x ps, count-cons f x (set ps p v))
-
--- the place rows of these records hold i, i + 1, ..
-abbrev pub Named : List ℕ → ℕ → List Record → Type 0
-Named ps i [] = Unit {0}
-Named ps i (r ∷ rs) = (r .place < length ps) × (getD ps (r .place) 0 ≡ i) × Named ps (suc i) rs
 
 pub named-mem : (ps : List ℕ) (i : ℕ) (rs : List Record) (r : Record) → Named ps i rs → r ∈ rs
     → (r .place < length ps) × (i ≤ getD ps (r .place) 0)

@@ -2,7 +2,7 @@
 use Prim.Native.Nat.{ℕ, zero, suc, _-_, _≤_, _<_}
 use mathlib.Core.Path.{_≡_, refl, sym, ap, _∙_}
 use mathlib.Core.Logic.{_⊎_, inl, inr}
-use mathlib.Core.List.{List, [], append-nil}
+use mathlib.Core.List.{List, [], _++_, append-nil}
 use mathlib.Core.Bool.{true, false}
 use native.Mathlib.Omega.{arith}
 use lib.Dec.{ltb}
@@ -13,7 +13,7 @@ use Rattle.model.specs.Store.{Store}
 use Rattle.model.specs.Soundness.{tableCheck}
 use Rattle.model.specs.Wire.{Request, readAt, end, stop, one, parse, requestBytes, answerBytes}
 use Rattle.model.specs.Step.{step}
-use Rattle.model.specs.Batch.{Run, ended, andThen, run, batch}
+use Rattle.model.specs.Batch.{Run, ended, andThen, answersOf, run, batch}
 use Rattle.model.proofs.Base.{case}
 use Rattle.model.proofs.RoundTrip.{Sendable, length-head, request-round}
 use Rattle.model.proofs.Parsing.{Reads, parse-reads, caseParsed}
@@ -127,6 +127,35 @@ run-stops zero = stops-zero
     stops-zero : (s : Store) (input : List ℕ) (space : ℕ) → Stops (run 0 s input space)
     stops-zero s input space = unfold run in inl refl
 run-stops (suc fuel) = step-stops fuel (run-stops fuel)
+
+-- what is sent is the answers of the requests answered, one behind the other
+abbrev Sends : Run → Type 0
+Sends r = r .out ≡ answersOf (r .log)
+
+step-sends : (fuel : ℕ) → ((s : Store) (input : List ℕ) (space : ℕ) → Sends (run fuel s input space)) → (s : Store) (input : List ℕ) (space : ℕ) → Sends (run (suc fuel) s input space)
+unfolding answersOf
+step-sends fuel ih s input space =
+    caseParsed (parse input)
+    (λ e. rw (run-end fuel s input space e))
+    (λ n e. rw (run-stop fuel s input space n e))
+    (λ q n e.
+    case (ltb space (length (answerBytes (step s q .answer))))
+    (λ d. rw (run-full fuel s input space q n e d))
+    (λ d. rw (run-one fuel s input space q n e d) (ap (λ (x : List ℕ). answerBytes (step s q .answer) ++ x) (ih (step s q .store) (drop n input) _))))
+
+run-sends : (fuel : ℕ) (s : Store) (input : List ℕ) (space : ℕ) → Sends (run fuel s input space)
+run-sends zero = sends-zero
+  where
+    sends-zero : (s : Store) (input : List ℕ) (space : ℕ) → Sends (run 0 s input space)
+    sends-zero s input space = unfold run answersOf in refl
+run-sends (suc fuel) = step-sends fuel (run-sends fuel)
+
+pub batch-sends : (s : Store) (input : List ℕ) (space : ℕ) → batch s input space .out ≡ answersOf (batch s input space .log)
+batch-sends s input space = go (tableCheck s) refl
+  where
+    go : (n : ℕ) → tableCheck s ≡ n → Sends (batch s input space)
+    go zero e = rw (batch-run s input space e) (run-sends (suc (length input)) s input space)
+    go (suc n) e = rw (batch-refused s input space (suc n) e (λ z. absurd (omega arith))) (unfold answersOf in refl)
 
 -- a batch that holds just one request which is answered
 pub batch-single : (s : Store) (q : Request) (space : ℕ) → tableCheck s ≡ 0 → tableCheck (step s q .store) ≡ 0 → Sendable q

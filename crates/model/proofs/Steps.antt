@@ -9,7 +9,7 @@ use lib.ListN.{length}
 use Rattle.model.specs.declared.Record.{Record}
 use mathlib.Core.Path.{_≡_, refl, subst}
 use Rattle.model.specs.Store.{Store, newest, records, open-end, Page, foundPage}
-use Rattle.model.specs.Lookup.{lookup}
+use Rattle.model.specs.Lookup.{lookup, readable}
 use Rattle.model.specs.Soundness.{tableCheck}
 use Rattle.model.specs.Wire.{Request, write, mark, revert, readAt, reclaim, accepted}
 use Rattle.model.specs.Step.{Stepped, unchanged, standing, firstFree, intoFree, written, doWrite, doMark, doRevert, doRead, doReclaim, step}
@@ -18,12 +18,12 @@ use Rattle.model.proofs.Base.{case}
 use Rattle.model.proofs.Ancestry.{Found, find→}
 use Rattle.model.proofs.Places.{named-mem}
 use Rattle.model.proofs.Pages.{length-page}
-use Rattle.model.proofs.Invariant.{Sound, sound-check, Reads, Inv, referenceOf, canon}
+use Rattle.model.proofs.Invariant.{sound-check, Reads, Inv, referenceOf, canon}
+use Rattle.model.specs.ByNumber.{Sound, Whole}
 use Rattle.model.proofs.Moves.{Stepping, mark-step, revert-step}
 use Rattle.model.proofs.Writing.{rows-falls, write-step}
 use Rattle.model.proofs.Reclaiming.{reclaim-step}
 use Rattle.model.proofs.Reading.{read-step}
-use Rattle.model.proofs.Parsing.{Whole}
 
 step-canon : (s : Store) (snaps : ℕ → Snapshot) (q : Request) → Sound s → Reads s snaps → Whole q → Stepping s (referenceOf s snaps) q (step s q)
 unfolding step
@@ -85,15 +85,17 @@ unfolding step doWrite doMark doRevert doRead doReclaim
 step-answers s (write a page) h = if-answers s (ltb a (s .head .size)) _ _ (written-answers s a page (standing s a)) (refused-answers s 4 (omega arith))
 step-answers s mark h = if-answers s (ltb (s .head .now) open-end) _ _ (accepted-answers s _ _) (refused-answers s 10 (omega arith))
 step-answers s (revert m) h =
-    if-answers s (ltb m (s .head .floor)) _ _ (refused-answers s 8 (omega arith))
+    if-answers s (readable s m) _ _
     (if-answers s (leb (s .head .now) m) _ _ (refused-answers s 9 (omega arith))
     (if-answers s (leb open-end (s .head .now)) _ _ (refused-answers s 10 (omega arith))
     (if-answers s (leb (length (s .branchRows)) (s .head .branches)) _ _ (refused-answers s 7 (omega arith)) (accepted-answers s _ _))))
+    (refused-answers s 8 (omega arith))
 step-answers s (readAt a m) h =
     if-answers s (ltb a (s .head .size)) _ _
-    (if-answers s (ltb m (s .head .floor)) _ _ (refused-answers s 8 (omega arith))
+    (if-answers s (readable s m) _ _
     (if-answers s (ltb (s .head .now) m) _ _ (refused-answers s 9 (omega arith))
-    (record { small = omega arith; leaves = λ e. refl; whole = found-whole s h a m (lookup s a m) refl })))
+    (record { small = omega arith; leaves = λ e. refl; whole = found-whole s h a m (lookup s a m) refl }))
+    (refused-answers s 8 (omega arith)))
     (refused-answers s 4 (omega arith))
 step-answers s (reclaim m) h =
     if-answers s (ltb m (s .head .floor)) _ _ (refused-answers s 8 (omega arith))

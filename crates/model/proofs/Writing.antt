@@ -13,18 +13,19 @@ use borrow.Author.Tests.{ltb-true, ltb-false, eqb-true, eqb-false}
 use Rattle.model.specs.declared.Branch.{Branch}
 use Rattle.model.specs.declared.Record.{Record}
 use Rattle.model.specs.Store.{Store, branches, newest, records, any, open-end, pageAt, withPage, foundPage, _∈_}
-use Rattle.model.specs.Lookup.{holds, within, orElse, latest, lookup}
+use Rattle.model.specs.Lookup.{holds, within, orElse, latest, lookup, readable}
 use Rattle.model.specs.Soundness.{precedes}
 use Rattle.model.specs.Wire.{write}
 use Rattle.model.specs.Step.{unchanged, withSlab, firstFree, shifted, before, putIn, inserted, doWrite}
 use Rattle.model.specs.Reference.{Snapshot, withSnapshot, withPageAt, hold, accept, feed}
 use Rattle.model.proofs.Base.{case, absurd-test}
-use Rattle.model.proofs.Latest.{caseOption, Asc, Before, precedes→, →precedes, Within, not-within, latest→, latest-skip, latest-top, precedes-trans}
-use Rattle.model.proofs.Ancestry.{→holds, Open, SoundRows, falls, any-head, find, find-hold, find-same, Found, find→}
+use Rattle.model.proofs.Latest.{caseOption, Before, precedes→, →precedes, Within, not-within, latest→, latest-skip, latest-top, precedes-trans}
+use Rattle.model.specs.ByNumber.{Falls, Asc, Open, SoundRows, find, Sizes, Sound}
+use Rattle.model.proofs.Ancestry.{→holds, falls, any-head, find-hold, find-same, Found, find→}
 use Rattle.model.proofs.Places.{named-mem, place-unique, firstFree→, write-named, write-used}
 use Rattle.model.proofs.Pages.{length-withPage, page-same, page-other}
 use Rattle.model.specs.Demand3.{key}
-use Rattle.model.proofs.Invariant.{Sizes, Sound, Reads, Inv, referenceOf}
+use Rattle.model.proofs.Invariant.{Reads, Inv, referenceOf}
 use Rattle.model.proofs.Moves.{Stepping, refused-step}
 
 -- one of two records with different keys is before the other
@@ -46,13 +47,13 @@ either r q ne e =
     let nm : r .moment ≢ q .moment = ne a in
     →precedes q r (inr (sym a, omega arith)))))
 
-pub rows-falls : (floor now : ℕ) (bs : List Branch) → SoundRows floor now bs → Rattle.model.proofs.Ancestry.Falls bs
+pub rows-falls : (floor now : ℕ) (bs : List Branch) → SoundRows floor now bs → Falls bs
 rows-falls floor now [] h = absurd h
 rows-falls floor now (b ∷ bs) h = falls floor (b ∷ bs) (h .1)
 
 -- a record withSnapshot in
 module _ (r : Record) where
-  put-mem : (k : ℕ) (rs : List Record) (q : Record) → q ∈ putIn k r rs → (q ≡ r) ⊎ (q ∈ rs)
+  pub put-mem : (k : ℕ) (rs : List Record) (q : Record) → q ∈ putIn k r rs → (q ≡ r) ⊎ (q ∈ rs)
   put-mem zero rs q m = m
   put-mem (suc k) [] q m = m
   put-mem (suc k) (x ∷ rs) q (inl e) = inr (inl e)
@@ -91,7 +92,7 @@ module _ (r : Record) where
       let f : precedes r x ≡ true = either x r (n x (inl refl)) e in
       rw (e, f))
 
-  before-le : (rs : List Record) → before r rs ≤ length rs
+  pub before-le : (rs : List Record) → before r rs ≤ length rs
   unfolding before
   before-le [] = omega arith
   before-le (x ∷ rs) =
@@ -134,7 +135,7 @@ foundPage-same slab slab′ (some q) h = ap (λ (x : List ℕ). some (record { b
 write-reads : (s : Store) (snaps : ℕ → Snapshot) (a : ℕ) (page : List ℕ) (look : ℕ → ℕ → Option Record) (slab′ : List ℕ) (r : Record)
     → Reads s snaps → look a (s .head .now) ≡ some r → pageAt slab′ (r .place) ≡ page → r .moment ≡ s .head .now
     → ((b t : ℕ) → t ≤ s .head .now → (b ≡ a → t ≡ s .head .now → ⊥) → foundPage slab′ (look b t) ≡ foundPage (s .slab) (lookup s b t))
-    → (b t : ℕ) → s .head .floor ≤ t → t ≤ s .head .now
+    → (b t : ℕ) → readable s t ≡ true → t ≤ s .head .now
     → foundPage slab′ (look b t) ≡ withSnapshot snaps (s .head .now) (withPageAt (snaps (s .head .now)) a (record { bytes = page; moment = s .head .now })) t b
 write-reads s snaps a page look slab′ r old hit pg rm other b t i j =
     case (eqb t (s .head .now))
@@ -190,7 +191,7 @@ overwrite-inv s snaps a page r h rd w e =
           ne (sym (g .at) ∙ qa) (omega (arith, g .upTo)))));
     }
 
-length-put : (k : ℕ) (r : Record) (rs : List Record) → length (putIn k r rs) ≡ suc (length rs)
+pub length-put : (k : ℕ) (r : Record) (rs : List Record) → length (putIn k r rs) ≡ suc (length rs)
 length-put zero r rs = refl
 length-put (suc k) r [] = refl
 length-put (suc k) r (x ∷ rs) = ap suc (length-put k r rs)
@@ -206,7 +207,7 @@ inserted-records s r page k z =
     take-at (putIn k r (records s)) (drop (s .head .records + 1) (s .recordRows)) (s .head .records + 1) l
 
 -- a lookup that does not see the new record
-find-put : (k : ℕ) (r : Record) (rs : List Record) (b t : ℕ) (bs : List Branch) → Rattle.model.proofs.Ancestry.Falls bs → (b ≡ r .address → r .moment ≤ t → ⊥)
+find-put : (k : ℕ) (r : Record) (rs : List Record) (b t : ℕ) (bs : List Branch) → Falls bs → (b ≡ r .address → r .moment ≤ t → ⊥)
     → find (putIn k r rs) b bs t ≡ find rs b bs t
 find-put k r rs b t bs f ne =
     find-same (putIn k r rs) rs b t

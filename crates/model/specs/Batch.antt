@@ -36,6 +36,11 @@ answerCount r = length (r .out)
 abbrev pub areaAfter : Run → List ℕ → List ℕ
 areaAfter r area = r .out ++ drop (length (r .out)) area
 
+-- the bytes of answers, one behind the other
+unfoldable pub answersOf : List Answered → List ℕ
+answersOf [] = []
+answersOf (e ∷ es) = answerBytes (e .answer) ++ answersOf es
+
 -- a batch that ends here
 abbrev pub ended : Store → ℕ → Run
 ended s n = record { store = s; stop = n; log = []; taken = 0; out = [] }

@@ -9,6 +9,7 @@ use lib.Dec.{eqb}
 use lib.ListN.{length}
 use Rattle.model.specs.declared.Record.{Record}
 use Rattle.model.specs.Store.{Store, records, keep, Page, pageOf, _∈_}
+use Rattle.model.specs.Lookup.{isReadable}
 use Rattle.model.specs.Soundness.{ascending, tableCheck}
 use Rattle.model.specs.Wire.{Request, write, mark, revert, readAt, reclaim, requestBytes, Answer, accepted, answerBytes}
 use Rattle.model.specs.Step.{step}
@@ -46,7 +47,7 @@ fed p (e ∷ es) = fed (next p e) es
 
 -- readable are the moments from the floor to now
 pub record Readable (p : Reference) (t : ℕ) : Type 0 where
-  pub low : p .floor ≤ t
+  pub low : isReadable (p .floor) t ≡ true
   pub high : t ≤ p .now
 
 -- the answer that a read gets: the moment asked, and the page of that snapshot if it has one
@@ -89,6 +90,7 @@ pub record Exact (s : Store) (p : Reference) : Type 0 where
 
 -- what holds of a store of `size` pages after the requests es, which took the reference to p
 pub record Agrees (size : ℕ) (s : Store) (p : Reference) (es : List Answered) : Type 0 where
+  pub volume : s .head .size ≡ size
   pub now : s .head .now ≡ p .now
   pub floor : s .head .floor ≡ p .floor
   -- the counted records are the held pairs, each once

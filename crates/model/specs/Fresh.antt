@@ -22,6 +22,10 @@ fresh size branchRows recordRows placeRows slab =
       slab = slab;
     }
 
+-- the fresh store of the batch program: A 64, 16 branches, 128 records, 128 places
+abbrev pub programStore : List ℕ → Store
+programStore slab = fresh 64 16 128 128 slab
+
 -- what is lent, made a fresh store
 unfoldable pub madeFresh : Store → ℕ → Store
 madeFresh s size =

@@ -6,6 +6,5 @@ pub mod Step
 pub mod Fresh
 pub mod Batch
 pub mod Reference
+pub mod ByNumber
 pub mod Demand3
-pub mod Session
-pub mod Refusals

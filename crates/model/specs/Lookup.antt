@@ -51,23 +51,31 @@ unfoldable pub anyUpTo : (ℕ → Bool) → ℕ → Bool
 anyUpTo p zero = p zero
 anyUpTo p (suc n) = p (suc n) || anyUpTo p n
 
--- some readable moment passes: one from the floor to now
-abbrev pub someReadable : ℕ → ℕ → (ℕ → Bool) → Bool
-someReadable floor now p = anyUpTo (λ t. leb floor t && p t) now
+-- a moment up to now is readable: it is not below the floor
+unfoldable pub isReadable : ℕ → ℕ → Bool
+isReadable floor t = leb floor t
+
+-- a store can read a moment up to its now
+abbrev pub readable : Store → ℕ → Bool
+readable s = isReadable (s .head .floor)
+
+-- some readable moment up to now passes
+abbrev pub someReadable : (ℕ → Bool) → ℕ → (ℕ → Bool) → Bool
+someReadable readable now p = anyUpTo (λ t. readable t && p t) now
 
 -- what was found is a record of this moment
 abbrev pub isAt : ℕ → Option Record → Bool
 isAt m (some r) = eqb (r .moment) m
 isAt m none = false
 
--- some read from the floor to now gives the record
+-- some read of a moment that is readable with this floor gives the record
 unfoldable pub isGiven : Store → ℕ → Record → Bool
-isGiven s floor r = someReadable floor (s .head .now) (λ t. isAt (r .moment) (lookup s (r .address) t))
+isGiven s floor r = someReadable (isReadable floor) (s .head .now) (λ t. isAt (r .moment) (lookup s (r .address) t))
 
 -- the branch that starts at `start` is in the ancestry of a moment
 unfoldable pub inAncestry : List Branch → ℕ → ℕ → Bool
 inAncestry bs t start = any (λ g. eqb (g .branch .start) start) (ancestry bs t)
 
--- the branch is in the ancestry of some moment from the floor to now
+-- the branch is in the ancestry of some moment that is readable with this floor
 unfoldable pub isAncestor : Store → ℕ → Branch → Bool
-isAncestor s floor b = someReadable floor (s .head .now) (λ t. inAncestry (newest s) t (b .start))
+isAncestor s floor b = someReadable (isReadable floor) (s .head .now) (λ t. inAncestry (newest s) t (b .start))

@@ -5,7 +5,7 @@ use mathlib.Core.Option.{Option, some, none}
 use mathlib.Core.Bool.{Bool, true, false, cond, _&&_, _||_}
 use lib.Dec.{ltb, eqb}
 use Rattle.model.specs.Store.{Page, keep}
-use Rattle.model.specs.Lookup.{someReadable}
+use Rattle.model.specs.Lookup.{isReadable, someReadable}
 use Rattle.model.specs.Wire.{Request, write, mark, revert, readAt, reclaim}
 
 -- a snapshot ("picture"): for each address no page, or a page with the moment of its write
@@ -49,9 +49,9 @@ abbrev pub hasMoment : ℕ → Option Page → Bool
 hasMoment m (some p) = eqb (p .moment) m
 hasMoment m none = false
 
--- some readable snapshot, from this floor to now, has at the pair's address a page with its moment
+-- some snapshot that is readable with this floor has at the pair's address a page with its moment
 unfoldable pub isSeen : Reference → ℕ → Pair → Bool
-isSeen p floor x = someReadable floor (p .now) (λ t. hasMoment (x .moment) (p .snapshot t (x .address)))
+isSeen p floor x = someReadable (isReadable floor) (p .now) (λ t. hasMoment (x .moment) (p .snapshot t (x .address)))
 
 -- an accepted request
 unfoldable pub accept : Reference → Request → Reference

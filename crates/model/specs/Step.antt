@@ -9,7 +9,7 @@ use Rattle.model.specs.declared.Branch.{Branch}
 use Rattle.model.specs.declared.Record.{Record}
 use Rattle.model.specs.declared.Head.{Head}
 use Rattle.model.specs.Store.{Store, branches, records, keep, open-end, zero-branch, zero-record, withPage, foundPage}
-use Rattle.model.specs.Lookup.{lookup, latest, isGiven, isAncestor}
+use Rattle.model.specs.Lookup.{lookup, latest, readable, isGiven, isAncestor}
 use Rattle.model.specs.Soundness.{precedes}
 use Rattle.model.specs.Wire.{Request, write, mark, revert, readAt, reclaim, Answer, refused, accepted}
 
@@ -114,18 +114,20 @@ branched s m =
 
 unfoldable pub doRevert : Store → ℕ → Stepped
 doRevert s m =
-    cond (ltb m (s .head .floor)) (unchanged s 8)
+    cond (readable s m)
     (cond (leb (s .head .now) m) (unchanged s 9)
     (cond (leb open-end (s .head .now)) (unchanged s 10)
     (cond (leb (length (s .branchRows)) (s .head .branches)) (unchanged s 7)
     (record { store = branched s m; answer = accepted (s .head .now) }))))
+    (unchanged s 8)
 
 unfoldable pub doRead : Store → ℕ → ℕ → Stepped
 doRead s a m =
     cond (ltb a (s .head .size))
-    (cond (ltb m (s .head .floor)) (unchanged s 8)
+    (cond (readable s m)
     (cond (ltb (s .head .now) m) (unchanged s 9)
-    (record { store = s; answer = record { refusal = 0; value = m; page = foundPage (s .slab) (lookup s a m) } })))
+    (record { store = s; answer = record { refusal = 0; value = m; page = foundPage (s .slab) (lookup s a m) } }))
+    (unchanged s 8))
     (unchanged s 4)
 
 -- a place row after a reclaim: a kept record is named by one more than the kept ones before it; any other row is free

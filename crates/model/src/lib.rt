@@ -1,5 +1,8 @@
 // The store's plain data.
 
+// The end of a branch that is still open, which is also the last moment.
+pub const OPEN_END: u32 = 4294967295;
+
 pub struct Branch {
     pub start: u32,
     pub end: u32,

@@ -4,16 +4,16 @@ use rows::Found;
 use rows::Outcome;
 ghost use mathlib.Core.Path.{_≡_};
 ghost use mathlib.Core.Bool.{true};
-ghost use mathlib.Core.List.{List};
-ghost use Prim.Native.Nat.{ℕ, _*_, _≤_};
+ghost use Prim.Native.Nat.{_≤_, _<_};
 ghost use lib.ListN.{length};
-ghost use Rattle.model.proofs.ByNumber.{Line, held, Ascend};
-ghost use Rattle.model.specs.Step.{doReclaim};
-ghost use Rattle.rows.specs.Rows.{branchRowsOf, recordRowsOf};
-ghost use Rattle.rows.specs.View.{storeOf, steppedOf};
+ghost use Rattle.model.specs.ByNumber.{Line, held, Ascend, candidates, newestOf};
+ghost use Rattle.model.specs.Wire.{reclaim};
+ghost use Rattle.rows.specs.Rows.{branchRowsOf, recordRowsOf, BranchesIn, RecordsIn};
+ghost use Rattle.rows.specs.View.{Tables, withBranches, withRecords, withPlaces, Carried};
 ghost use Rattle.branch_marks.specs.Marks.{Filled, Zeros, keptBranch};
-ghost use Rattle.record_marks.specs.Marks.{keptRecord};
-ghost use Rattle.reclaim.specs.Tables.{Tables};
+ghost use Rattle.record_marks.specs.Marks.{Placed};
+ghost use Rattle.deciding.specs.Deciding.{keptRecord};
+ghost use Rattle.reclaim.specs.Reclaimable.{Reclaimable};
 
 // Room for a byte of each branch.
 fn branch_bytes() -> [u8; 4096]
@@ -29,25 +29,31 @@ fn record_bytes() -> [u8; 65536]
     [0u8; 65536]
 }
 
-// The marks of n branches and of nr records.
+// The marks of n branches and of nr records: by the moments that decide, which are listed once.
 fn mark_all(bt: &[u32], n: usize, rt: &[u32], nr: usize, floor: u32, bm: &mut [u8], rm: &mut [u8])
-    requires { ⌜ (n * 3 ≤ length (now bt)) × (n ≤ 4096) × (nr ≤ 65536) × (nr * 3 ≤ length (now rt)) × (n ≤ length (now bm)) × (nr ≤ length (now rm)) ⌝ }
+    requires { ⌜ BranchesIn n (now bt) × (n ≤ 4096) × (0 < n) × RecordsIn nr (now rt) × (n ≤ length (now bm)) × (nr ≤ length (now rm)) ⌝ }
     requires { ⌜ Line (branchRowsOf (now bt)) n ⌝ }
     requires { ⌜ held (branchRowsOf (now bt)) n floor ≡ true ⌝ }
     requires { ⌜ Ascend (recordRowsOf (now rt)) nr ⌝ }
-    ensures { λ _. ⌜ Filled (keptBranch (branchRowsOf (now (bt .entry))) n floor) n (now (bm .entry)) (now (bm .exit)) ⌝ }
+    requires { ⌜ Placed (branchRowsOf (now bt)) n (recordRowsOf (now rt)) nr ⌝ }
+    ensures { λ _. ⌜ Filled (keptBranch (branchRowsOf (now (bt .entry))) n (candidates floor (newestOf (branchRowsOf (now (bt .entry))) n))) n (now (bm .entry)) (now (bm .exit)) ⌝ }
     ensures { λ _. ⌜ Filled (keptRecord (branchRowsOf (now (bt .entry))) n (recordRowsOf (now (rt .entry))) nr floor) nr (now (rm .entry)) (now (rm .exit)) ⌝ }
 {
-    let mut up = branch_marks::numbers();
-    branch_marks::parents(bt, n, &mut up);
-    branch_marks::mark_branches(bt, n, &up, floor, bm);
-    record_marks::mark_records(bt, n, &up, rt, nr, floor, rm);
+    let mut table = deciding::moments();
+    let c = deciding::deciding(bt, n, floor, &mut table);
+    branch_marks::mark_branches(bt, n, &table[..c], bm);
+    if deciding::none_older(rt, nr, floor) {
+        deciding::keep_young(rt, nr, floor, rm);
+        return;
+    }
+    record_marks::mark_records(bt, n, &table[..c], rt, nr, rm);
+    deciding::keep_young(rt, nr, floor, rm);
 }
 
 // Request 5, with refusals 8 and 9 in this order. The answer is the number of records freed.
 pub fn reclaim(head: Head, bt: &mut [u32], rt: &mut [u32], pt: &mut [u32], floor: u32) -> Outcome
-    requires { ⌜ Tables head (now bt) (now rt) (now pt) ⌝ }
-    ensures { λ r. ⌜ ((slab : List ℕ) → steppedOf r (now (bt .exit)) (now (rt .exit)) (now (pt .exit)) slab ≡ doReclaim (storeOf head (now (bt .entry)) (now (rt .entry)) (now (pt .entry)) slab) floor) ⌝ }
+    requires { ⌜ Reclaimable head (now bt) (now rt) (now pt) ⌝ }
+    ensures { λ r. ⌜ ((t : Tables) → Carried head (withPlaces (now (pt .entry)) (withRecords (now (rt .entry)) (withBranches (now (bt .entry)) t))) (reclaim floor) r (withPlaces (now (pt .exit)) (withRecords (now (rt .exit)) (withBranches (now (bt .exit)) t)))) ⌝ }
 {
     if floor < head.floor {
         return rows::refused(head, 8);

@@ -1,2 +1,3 @@
-pub mod Trying
-pub mod Groups
+pub mod Hopping
+pub mod Giving
+pub mod Taking

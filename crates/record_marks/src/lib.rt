@@ -1,150 +1,239 @@
-// A byte for each record: 1 where a reclaim keeps it.
+// A byte for each record: 1 where a lookup at one of a list of moments gives it.
 ghost use mathlib.Core.Path.{_≡_};
-ghost use mathlib.Core.Bool.{true, _||_};
-ghost use lib.Dec.{leb, eqb};
-ghost use Prim.Native.Nat.{_*_, _≤_, _<_};
+ghost use mathlib.Core.Bool.{true};
+ghost use lib.Dec.{ltb};
+ghost use Prim.Native.Nat.{_+_, _≤_, _<_};
 ghost use lib.ListN.{length};
-ghost use Rattle.rows.specs.Rows.{branchRowsOf, recordRowsOf};
-ghost use Rattle.model.proofs.ByNumber.{entry, Line, held, Ascend};
-ghost use Rattle.branch_marks.specs.Marks.{Holder, Filled, bit, Parents};
-ghost use Rattle.record_search.specs.Search.{Inherits, Rising, Group};
-ghost use Rattle.record_marks.specs.Marks.{Opens, Ranged, youngRow, triedRow, keptRow, keptRecord};
+ghost use Rattle.rows.specs.Rows.{branchRowsOf, recordRowsOf, BranchesIn, RecordsIn};
+ghost use Rattle.model.specs.ByNumber.{Line, Ascend};
+ghost use Rattle.branch_marks.specs.Marks.{bit, Held, Zeros, Filled};
+ghost use Rattle.spans.specs.Order.{Tree, Edges, Sums, Firsts};
+ghost use Rattle.record_marks.specs.Marks.{Placed, Blank, ownersIn, endsIn, GivenBy, Taken, Worked, Stopped, Onward, givenRow};
 
-// The end of the rows that have the address of the row lo, of n records.
-pub fn group_end(rt: &[u32], n: usize, lo: usize) -> usize
-    requires { ⌜ (n * 3 ≤ length (now rt)) × (lo < n) ⌝ }
-    requires { ⌜ Ascend (recordRowsOf (now rt)) n ⌝ }
-    requires { ⌜ Opens (recordRowsOf (now rt)) lo ⌝ }
-    ensures { λ r. ⌜ Group (recordRowsOf (now (rt .entry))) n (entry (recordRowsOf (now (rt .entry))) lo .address) lo r ⌝ }
+// The first number from lo on that no span of the address a begins at, or one not below hi.
+pub fn hop(taken: &[u64], a: u32, lo: usize, hi: usize) -> usize
+    requires { ⌜ hi ≤ length (now taken) ⌝ }
+    requires { ⌜ Onward (ownersIn (now taken)) (endsIn (now taken)) (a + 1) ⌝ }
+    ensures { λ r. ⌜ Stopped (ownersIn (now (taken .entry))) (endsIn (now (taken .entry))) (a + 1) lo hi r ⌝ }
 {
-    let first = rows::record_at(rt, lo);
-    let mut hi = lo + 1;
-    while hi < n {
-        let r = rows::record_at(rt, hi);
-        if r.address != first.address {
-            return hi;
+    let mut p = lo;
+    while p < hi {
+        let v = taken[p];
+        if v / 4294967296 != a as u64 {
+            return p;
         }
-        hi += 1;
+        if v % 4294967296 == 0 {
+            return p;
+        }
+        p = (v % 4294967296) as usize;
     }
-    hi
+    p
 }
 
-// The byte of a record by its moment and its row number, before the branches' starts are tried.
-fn young(moment: u32, floor: u32, number: usize, found: usize) -> u8
-    ensures { λ r. ⌜ r ≡ bit (leb floor moment || eqb found number) ⌝ }
+// 1 where p is below hi.
+fn below(p: usize, hi: usize) -> u8
+    ensures { λ r. ⌜ r ≡ bit (ltb p hi) ⌝ }
 {
-    if floor <= moment {
-        return 1;
-    }
-    if found == number {
+    if p < hi {
         return 1;
     }
     0
 }
 
-// The bytes of the rows lo .. hi - 1: records not older than the floor, and the one found at the floor.
-fn mark_young(rt: &[u32], lo: usize, hi: usize, floor: u32, found: usize, marks: &mut [u8])
-    requires { ⌜ (lo ≤ hi) × (hi ≤ 65536) × (hi * 3 ≤ length (now rt)) × (hi ≤ length (now marks)) ⌝ }
-    ensures { λ _. ⌜ Ranged (youngRow (recordRowsOf (now (rt .entry))) floor found) lo hi (now (marks .entry)) (now (marks .exit)) ⌝ }
+// The bytes of nr records, from the last to the first. At a number where a span of the address begins, taken has the address and the end of the longest such span.
+pub fn mark_rows(
+    bt: &[u32],
+    n: usize,
+    keys: &[u64],
+    ne: usize,
+    edges: &[u32],
+    sums: &[u32],
+    firsts: &[u32],
+    rt: &[u32],
+    nr: usize,
+    taken: &mut [u64],
+    marks: &mut [u8],
+)
+    requires { ⌜ BranchesIn n (now bt) × (0 < n) × (ne ≤ 16384) × (ne ≤ length (now keys)) × (n ≤ length (now edges)) × (ne < length (now sums)) × (n ≤ length (now firsts)) × RecordsIn nr (now rt) × (ne ≤ length (now taken)) × (nr ≤ length (now marks)) ⌝ }
+    requires { ⌜ Line (branchRowsOf (now bt)) n ⌝ }
+    requires { ⌜ Tree (branchRowsOf (now bt)) n (now keys) ne ⌝ }
+    requires { ⌜ Sums (branchRowsOf (now bt)) (now keys) ne ne (now sums) ⌝ }
+    requires { ⌜ Edges (branchRowsOf (now bt)) n (now keys) ne (now edges) ⌝ }
+    requires { ⌜ Firsts (branchRowsOf (now bt)) n (now keys) ne 0 (now sums) (now firsts) ⌝ }
+    requires { ⌜ Ascend (recordRowsOf (now rt)) nr ⌝ }
+    requires { ⌜ Placed (branchRowsOf (now bt)) n (recordRowsOf (now rt)) nr ⌝ }
+    requires { ⌜ Blank (now taken) ⌝ }
+    ensures { λ _. ⌜ GivenBy (branchRowsOf (now (bt .entry))) n (recordRowsOf (now (rt .entry))) nr (now (keys .entry)) ne (now (marks .entry)) (now (marks .exit)) ⌝ }
+    ensures { λ _. ⌜ Taken (branchRowsOf (now (bt .entry))) n (now (keys .entry)) ne (now (sums .entry)) (now (firsts .entry)) (recordRowsOf (now (rt .entry))) nr (now (taken .entry)) (now (taken .exit)) ⌝ }
 {
-    let mut k = lo;
-    while k < hi {
-        let x = rows::record_at(rt, k);
-        marks[k] = young(x.moment, floor, k + 1, found);
+    let mut s = spans::no_span();
+    let mut k = nr;
+    while 0 < k {
+        k -= 1;
+        let r = rows::record_at(rt, k);
+        s = spans::span_near(bt, n, keys, ne, edges, sums, firsts, r.moment, s);
+        let lo = s.lo;
+        let hi = s.hi;
+        if hi <= lo {
+            marks[k] = 0;
+            continue;
+        }
+        let p = hop(taken, r.address, lo, hi);
+        taken[lo] = r.address as u64 * 4294967296 + hi as u64;
+        marks[k] = below(p, hi);
+    }
+}
+
+// The first n numbers become 0.
+fn clear(t: &mut [u64], n: usize)
+    requires { ⌜ n ≤ length (now t) ⌝ }
+    ensures { λ _. ⌜ Filled (λ _. 0) n (now (t .entry)) (now (t .exit)) ⌝ }
+{
+    let mut k: usize = 0;
+    while k < n {
+        t[k] = 0;
         k += 1;
     }
 }
 
-// And those found at the start of a branch above the floor.
-fn mark_starts(
+// The bytes of nr records in rooms that are lent: keys and sums of the events, edges and first numbers of the rows. The room of the sort, zeros at first,
+// is then that of the spans taken.
+fn mark_with(
     bt: &[u32],
     n: usize,
-    rt: &[u32],
-    lo: usize,
-    hi: usize,
-    floor: u32,
-    inh: &[u32],
-    marks: &mut [u8],
-)
-    requires { ⌜ (n * 3 ≤ length (now bt)) × (lo ≤ hi) × (hi ≤ 65536) × (hi * 3 ≤ length (now rt)) × (n ≤ length (now inh)) × (hi ≤ length (now marks)) ⌝ }
-    requires { ⌜ Line (branchRowsOf (now bt)) n ⌝ }
-    requires { ⌜ Inherits (branchRowsOf (now bt)) n (recordRowsOf (now rt)) lo hi (now inh) ⌝ }
-    requires { ⌜ Rising (recordRowsOf (now rt)) lo hi ⌝ }
-    requires { ⌜ Ranged (triedRow (branchRowsOf (now bt)) n (recordRowsOf (now rt)) lo hi floor 0) lo hi (now marks) (now marks) ⌝ }
-    ensures { λ _. ⌜ Ranged (keptRow (branchRowsOf (now (bt .entry))) n (recordRowsOf (now (rt .entry))) lo hi floor) lo hi (now (marks .entry)) (now (marks .exit)) ⌝ }
-{
-    let mut i: usize = 0;
-    while i < n {
-        let b = rows::branch_at(bt, i);
-        let o = inh[i];
-        i += 1;
-        if b.start <= floor {
-            continue;
-        }
-        let r = record_search::latest_in(rt, lo, hi, b.start, b.start, o) as usize;
-        if r == 0 {
-            continue;
-        }
-        marks[r - 1] = 1;
-    }
-}
-
-// A byte for each of the rows lo .. hi - 1: 1 where a reclaim to the floor keeps the record. The branch `at` holds the floor.
-pub fn mark_group(
-    bt: &[u32],
-    n: usize,
-    rt: &[u32],
-    lo: usize,
-    hi: usize,
-    floor: u32,
-    at: usize,
-    inh: &[u32],
-    marks: &mut [u8],
-)
-    requires { ⌜ (n * 3 ≤ length (now bt)) × (lo ≤ hi) × (hi ≤ 65536) × (hi * 3 ≤ length (now rt)) × (n ≤ length (now inh)) × (hi ≤ length (now marks)) ⌝ }
-    requires { ⌜ Line (branchRowsOf (now bt)) n ⌝ }
-    requires { ⌜ Holder (branchRowsOf (now bt)) n floor at ⌝ }
-    requires { ⌜ Inherits (branchRowsOf (now bt)) n (recordRowsOf (now rt)) lo hi (now inh) ⌝ }
-    requires { ⌜ Rising (recordRowsOf (now rt)) lo hi ⌝ }
-    ensures { λ _. ⌜ Ranged (keptRow (branchRowsOf (now (bt .entry))) n (recordRowsOf (now (rt .entry))) lo hi floor) lo hi (now (marks .entry)) (now (marks .exit)) ⌝ }
-{
-    let b = rows::branch_at(bt, at);
-    let o = inh[at];
-    let found = record_search::latest_in(rt, lo, hi, b.start, floor, o) as usize;
-    mark_young(rt, lo, hi, floor, found, marks);
-    mark_starts(bt, n, rt, lo, hi, floor, inh, marks);
-}
-
-// A byte for each of nr records: 1 where a reclaim to the floor keeps it. One address at a time; where its oldest record is not older than the floor, all are kept.
-pub fn mark_records(
-    bt: &[u32],
-    n: usize,
-    up: &[u32],
+    wanted: &[u32],
     rt: &[u32],
     nr: usize,
-    floor: u32,
+    keys: &mut [u64],
+    room: &mut [u64],
+    sums: &mut [u32],
+    edges: &mut [u32],
+    firsts: &mut [u32],
     marks: &mut [u8],
 )
-    requires { ⌜ (n * 3 ≤ length (now bt)) × (n ≤ 4096) × (n ≤ length (now up)) × (nr ≤ 65536) × (nr * 3 ≤ length (now rt)) × (nr ≤ length (now marks)) ⌝ }
+    requires { ⌜ BranchesIn n (now bt) × (n ≤ 4096) × (0 < n) × (length (now wanted) ≤ 8192) × RecordsIn nr (now rt) × (length (now wanted) + n ≤ length (now keys) + 1) × (length (now wanted) + n ≤ length (now room) + 1) × (length (now wanted) + n ≤ length (now sums)) × (n ≤ length (now edges)) × (n ≤ length (now firsts)) × (nr ≤ length (now marks)) ⌝ }
     requires { ⌜ Line (branchRowsOf (now bt)) n ⌝ }
-    requires { ⌜ Parents (branchRowsOf (now bt)) n (now up) ⌝ }
-    requires { ⌜ held (branchRowsOf (now bt)) n floor ≡ true ⌝ }
+    requires { ⌜ Held (branchRowsOf (now bt)) n (now wanted) ⌝ }
     requires { ⌜ Ascend (recordRowsOf (now rt)) nr ⌝ }
-    ensures { λ _. ⌜ Filled (keptRecord (branchRowsOf (now (bt .entry))) n (recordRowsOf (now (rt .entry))) nr floor) nr (now (marks .entry)) (now (marks .exit)) ⌝ }
+    requires { ⌜ Placed (branchRowsOf (now bt)) n (recordRowsOf (now rt)) nr ⌝ }
+    requires { ⌜ Blank (now room) ⌝ }
+    ensures { λ _. ⌜ Filled (givenRow (branchRowsOf (now (bt .entry))) n (recordRowsOf (now (rt .entry))) nr (now (wanted .entry))) nr (now (marks .entry)) (now (marks .exit)) ⌝ }
+    ensures { λ _. ⌜ Worked (branchRowsOf (now (bt .entry))) n (now (wanted .entry)) (recordRowsOf (now (rt .entry))) nr (now (keys .entry)) (now (keys .exit)) (now (room .entry)) (now (room .exit)) (now (sums .entry)) (now (sums .exit)) (now (edges .entry)) (now (edges .exit)) (now (firsts .entry)) (now (firsts .exit)) ⌝ }
 {
-    let mut inh = branch_marks::numbers();
-    let at = branch_marks::row_holding(bt, n, floor);
-    let mut lo: usize = 0;
-    while lo < nr {
-        let hi = group_end(rt, nr, lo);
-        let first = rows::record_at(rt, lo);
-        if floor <= first.moment {
-            mark_young(rt, lo, hi, floor, 0, marks);
-            lo = hi;
-            continue;
+    let ne = events::list(bt, n, wanted, keys, room);
+    spans::edge_rows(bt, n, keys, ne, edges);
+    spans::sum_up(bt, n, keys, ne, edges, sums);
+    spans::number_rows(bt, n, keys, ne, edges, sums, firsts);
+    clear(room, ne);
+    mark_rows(bt, n, keys, ne, edges, sums, firsts, rt, nr, room, marks);
+}
+
+// Rooms for 256 branches and 257 moments: 512 events.
+fn few_keys() -> [u64; 512]
+    ensures { λ r. ⌜ Zeros 512 r ⌝ }
+{
+    [0u64; 512]
+}
+
+fn few_sums() -> [u32; 513]
+    ensures { λ r. ⌜ Zeros 513 r ⌝ }
+{
+    [0u32; 513]
+}
+
+fn few_rows() -> [u32; 256]
+    ensures { λ r. ⌜ Zeros 256 r ⌝ }
+{
+    [0u32; 256]
+}
+
+// The bytes of nr records, where branches and moments are few: rooms of 14 KB.
+fn mark_few(bt: &[u32], n: usize, wanted: &[u32], rt: &[u32], nr: usize, marks: &mut [u8])
+    requires { ⌜ BranchesIn n (now bt) × (n ≤ 256) × (0 < n) × (length (now wanted) ≤ 257) × RecordsIn nr (now rt) × (nr ≤ length (now marks)) ⌝ }
+    requires { ⌜ Line (branchRowsOf (now bt)) n ⌝ }
+    requires { ⌜ Held (branchRowsOf (now bt)) n (now wanted) ⌝ }
+    requires { ⌜ Ascend (recordRowsOf (now rt)) nr ⌝ }
+    requires { ⌜ Placed (branchRowsOf (now bt)) n (recordRowsOf (now rt)) nr ⌝ }
+    ensures { λ _. ⌜ Filled (givenRow (branchRowsOf (now (bt .entry))) n (recordRowsOf (now (rt .entry))) nr (now (wanted .entry))) nr (now (marks .entry)) (now (marks .exit)) ⌝ }
+{
+    let mut keys = few_keys();
+    let mut room = few_keys();
+    let mut sums = few_sums();
+    let mut edges = few_rows();
+    let mut firsts = few_rows();
+    mark_with(
+        bt,
+        n,
+        wanted,
+        rt,
+        nr,
+        &mut keys,
+        &mut room,
+        &mut sums,
+        &mut edges,
+        &mut firsts,
+        marks,
+    );
+}
+
+// Rooms for 4,096 branches and 4,097 moments: 8,192 events.
+fn most_keys() -> [u64; 8192]
+    ensures { λ r. ⌜ Zeros 8192 r ⌝ }
+{
+    [0u64; 8192]
+}
+
+fn most_sums() -> [u32; 8193]
+    ensures { λ r. ⌜ Zeros 8193 r ⌝ }
+{
+    [0u32; 8193]
+}
+
+// The bytes of nr records, where branches or moments are many: rooms of 197 KB.
+fn mark_many(bt: &[u32], n: usize, wanted: &[u32], rt: &[u32], nr: usize, marks: &mut [u8])
+    requires { ⌜ BranchesIn n (now bt) × (n ≤ 4096) × (0 < n) × (length (now wanted) ≤ 4097) × RecordsIn nr (now rt) × (nr ≤ length (now marks)) ⌝ }
+    requires { ⌜ Line (branchRowsOf (now bt)) n ⌝ }
+    requires { ⌜ Held (branchRowsOf (now bt)) n (now wanted) ⌝ }
+    requires { ⌜ Ascend (recordRowsOf (now rt)) nr ⌝ }
+    requires { ⌜ Placed (branchRowsOf (now bt)) n (recordRowsOf (now rt)) nr ⌝ }
+    ensures { λ _. ⌜ Filled (givenRow (branchRowsOf (now (bt .entry))) n (recordRowsOf (now (rt .entry))) nr (now (wanted .entry))) nr (now (marks .entry)) (now (marks .exit)) ⌝ }
+{
+    let mut keys = most_keys();
+    let mut room = most_keys();
+    let mut sums = most_sums();
+    let mut edges = branch_marks::numbers();
+    let mut firsts = branch_marks::numbers();
+    mark_with(
+        bt,
+        n,
+        wanted,
+        rt,
+        nr,
+        &mut keys,
+        &mut room,
+        &mut sums,
+        &mut edges,
+        &mut firsts,
+        marks,
+    );
+}
+
+// The bytes of nr records: 1 where a lookup at a wanted moment gives it.
+pub fn mark_records(bt: &[u32], n: usize, wanted: &[u32], rt: &[u32], nr: usize, marks: &mut [u8])
+    requires { ⌜ BranchesIn n (now bt) × (n ≤ 4096) × (0 < n) × (length (now wanted) ≤ 4097) × RecordsIn nr (now rt) × (nr ≤ length (now marks)) ⌝ }
+    requires { ⌜ Line (branchRowsOf (now bt)) n ⌝ }
+    requires { ⌜ Held (branchRowsOf (now bt)) n (now wanted) ⌝ }
+    requires { ⌜ Ascend (recordRowsOf (now rt)) nr ⌝ }
+    requires { ⌜ Placed (branchRowsOf (now bt)) n (recordRowsOf (now rt)) nr ⌝ }
+    ensures { λ _. ⌜ Filled (givenRow (branchRowsOf (now (bt .entry))) n (recordRowsOf (now (rt .entry))) nr (now (wanted .entry))) nr (now (marks .entry)) (now (marks .exit)) ⌝ }
+{
+    if n <= 256 {
+        if wanted.len() <= 257 {
+            mark_few(bt, n, wanted, rt, nr, marks);
+            return;
         }
-        record_search::inherit(bt, n, up, rt, lo, hi, &mut inh);
-        mark_group(bt, n, rt, lo, hi, floor, at, &inh, marks);
-        lo = hi;
+        mark_many(bt, n, wanted, rt, nr, marks);
+        return;
     }
+    mark_many(bt, n, wanted, rt, nr, marks);
 }

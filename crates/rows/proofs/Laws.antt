@@ -1,19 +1,20 @@
 -- Laws of rows, once over the width and the kind of row; then the two kinds.
 use mathlib.Core.Path.{_≡_, refl, sym, ap, ap₂, _∙_}
-use mathlib.Core.List.{List, [], _∷_, _++_}
-use Prim.Native.Nat.{ℕ, zero, suc, _+_, _*_, _/_, _%_, _≤_, _<_}
-use native.Mathlib.Nat.{add-zero, suc-mul, zero-mul, mul-le-mul-right, div-mul-le-self, div-add-mod'}
+use mathlib.Core.List.{List, _∷_, _++_}
+use Prim.Native.Nat.{ℕ, zero, suc, _+_, _-_, _*_, _/_, _≤_, _<_}
+use native.Mathlib.Nat.{add-zero, suc-mul, zero-mul, mul-le-mul-right, div-mul-le-self, le-div-iff-mul-le}
 use lib.Dec.{ltb}
 use borrow.Author.Tests.{ltb-true, ltb-false}
 use Rattle.model.proofs.Base.{case}
 use native.Mathlib.Numerals.{towards-suc}
 use native.Mathlib.Omega.{arith}
-use lib.ListN.{length, getD, set, take, drop, length-drop, take-append-drop, drop-of-length-le, replicate, length-replicate}
+use lib.ListN.{length, getD, set, take, drop, length-drop, take-append-drop, replicate, length-replicate}
 use lib.Seq.{sets, length-sets, ext-getD, getD-take, getD-drop, length-take-le, take-add}
 use Rattle.model.specs.declared.Branch.{Branch}
 use Rattle.model.specs.declared.Record.{Record}
 use Rattle.model.specs.Store.{zero-branch, zero-record}
-use Rattle.rows.specs.Rows.{tab, rowAt, rowsBy, flat, relaid, branchOf, branchFields, branchRowsOf, recordOf, recordFields, recordRowsOf}
+use Rattle.model.specs.ByNumber.{branch, entry}
+use Rattle.rows.specs.Rows.{tab, zeros, rowAt, rowsBy, flat, relaid, RowSet, branchWidth, branchOf, branchFields, branchRowsOf, recordWidth, recordOf, recordFields, recordRowsOf, BranchSet, RecordSet, BranchesIn, RecordsIn}
 use Rattle.rows.proofs.Tab.{length-tab, getD-tab, tab-ext, tab-set}
 use Rattle.rows.proofs.Runs.{sets-in, sets-out}
 
@@ -102,21 +103,30 @@ module _ {A : Type 0} (K : Kind A) where
       let l : length t / K .width * K .width ≤ length t = div-mul-le-self (length t) (K .width) in
       rw (flat-tab (length t / K .width) t l) (take-append-drop (length t / K .width * K .width) t)
 
-  -- a table of whole rows that has these rows is any table of that length with them laid over it
-  pub relaid-rows : (t u : List ℕ) (xs : List A) → length u ≡ length t → length t % K .width ≡ 0 → rows u ≡ xs → u ≡ relaid (K .width) (K .fields) xs t
-  relaid-rows t u xs l e h =
-      let whole : (v : List ℕ) → length v ≡ length t → drop (length v / K .width * K .width) v ≡ [] =
-      λ v m.
-      let long : length v ≤ length v / K .width * K .width =
-      omega (arith, div-add-mod' (length t) (K .width), ap (λ (x : ℕ). x / K .width * K .width) m) in
-      drop-of-length-le v long in
-      sym (relaid-own u) ∙ rw (h, whole u l, whole t refl)
+  -- the numbers of a row stored in its place: the table with that row set
+  pub row-put : (t : List ℕ) (i : ℕ) (b : A) → i * K .width + K .width ≤ length t → RowSet (K .width) (K .make) (K .fields) t i b (sets t (i * K .width) (K .fields b))
+  row-put t i b l =
+      let w : ℕ = K .width in
+      let u : List ℕ = sets t (i * w) (K .fields b) in
+      let whole : ℕ = length t / w * w in
+      let same : length u ≡ length t = length-sets t (i * w) (K .fields b) in
+      let room : suc i ≤ length t / w = le-div-iff-mul-le (K .wide) .1 (omega (arith, suc-mul i w)) in
+      let inside : i * w + length (K .fields b) ≤ whole =
+      omega (arith, K .full b, suc-mul i w, mul-le-mul-right w room) in
+      let past : drop whole u ≡ drop whole t =
+      ext-getD 0 _ _ (length-drop whole u ∙ (ap (λ (n : ℕ). n - whole) same ∙ sym (length-drop whole t)))
+      (λ j h. getD-drop whole u j 0 ∙ (sets-out (K .fields b) t (i * w) (whole + j) (λ a c. omega arith) ∙ sym (getD-drop whole t j 0))) in
+      let table : u ≡ relaid w (K .fields) (set (rows t) i b) t =
+      sym (relaid-own u)
+      ∙ (ap (λ (xs : List A). relaid w (K .fields) xs u) (rows-put t i b l)
+      ∙ (ap (λ (n : ℕ). flat (K .fields) (set (rows t) i b) ++ drop (n / w * w) u) same ∙ ap (λ (x : List ℕ). flat (K .fields) (set (rows t) i b) ++ x) past)) in
+      record { laid = record { table = table } }
 
 -- rows of branches
 abbrev pub branch-kind : Kind Branch
 branch-kind =
     record {
-      width = 3;
+      width = branchWidth;
       wide = omega arith;
       make = branchOf;
       fields = branchFields;
@@ -130,7 +140,7 @@ branch-kind =
 abbrev pub record-kind : Kind Record
 record-kind =
     record {
-      width = 3;
+      width = recordWidth;
       wide = omega arith;
       make = recordOf;
       fields = recordFields;
@@ -141,33 +151,42 @@ record-kind =
     }
 
 -- how many rows a table has
-pub branch-count : (t : List ℕ) → length (branchRowsOf t) ≡ length t / 3
+pub branch-count : (t : List ℕ) → length (branchRowsOf t) ≡ length t / branchWidth
 branch-count t = rows-length branch-kind t
 
-pub record-count : (t : List ℕ) → length (recordRowsOf t) ≡ length t / 3
+pub record-count : (t : List ℕ) → length (recordRowsOf t) ≡ length t / recordWidth
 record-count t = rows-length record-kind t
 
 -- a row read and a row stored, as the code does it
-module _ (t : List ℕ) (i : ℕ) (l : i * 3 + 2 < length t) where
-  pub branch-get : getD (branchRowsOf t) i zero-branch ≡ record { start = getD t (i * 3) 0; end = getD t (i * 3 + 1) 0; cut = getD t (i * 3 + 2) 0 }
-  branch-get = rows-get branch-kind t i zero-branch (omega arith) ∙ rw (add-zero (i * 3))
+module _ (t : List ℕ) (i : ℕ) where
+  pub branch-get : BranchesIn (suc i) t
+      → branch (branchRowsOf t) i
+      ≡ record { start = getD t (i * branchWidth) 0; end = getD t (i * branchWidth + 1) 0; cut = getD t (i * branchWidth + 2) 0 }
+  branch-get l = rows-get branch-kind t i zero-branch (omega arith) ∙ rw (add-zero (i * branchWidth))
 
-  pub branch-put : (b : Branch) → branchRowsOf (set (set (set t (i * 3) (b .start)) (i * 3 + 1) (b .end)) (i * 3 + 2) (b .cut)) ≡ set (branchRowsOf t) i b
-  branch-put b =
-      let e : set (set (set t (i * 3) (b .start)) (i * 3 + 1) (b .end)) (i * 3 + 2) (b .cut) ≡ sets t (i * 3) (branchFields b) = simp towards-suc in
-      rw e (rows-put branch-kind t i b (omega arith))
+  pub branch-put : BranchesIn (suc i) t → (b : Branch) {u v x : List ℕ} → u ≡ set t (i * branchWidth) (b .start) → v ≡ set u (i * branchWidth + 1) (b .end) → x ≡ set v (i * branchWidth + 2) (b .cut)
+      → BranchSet t i b x
+  branch-put l b e₁ e₂ e₃ =
+      let e : set (set (set t (i * branchWidth) (b .start)) (i * branchWidth + 1) (b .end)) (i * branchWidth + 2) (b .cut) ≡ sets t (i * branchWidth) (branchFields b) = simp towards-suc in
+      rw (e₃, e₂, e₁, e) (row-put branch-kind t i b (omega arith))
 
-  pub record-get : getD (recordRowsOf t) i zero-record ≡ record { address = getD t (i * 3) 0; moment = getD t (i * 3 + 1) 0; place = getD t (i * 3 + 2) 0 }
-  record-get = rows-get record-kind t i zero-record (omega arith) ∙ rw (add-zero (i * 3))
+  pub record-get : RecordsIn (suc i) t
+      → entry (recordRowsOf t) i
+      ≡ record { address = getD t (i * recordWidth) 0; moment = getD t (i * recordWidth + 1) 0; place = getD t (i * recordWidth + 2) 0 }
+  record-get l = rows-get record-kind t i zero-record (omega arith) ∙ rw (add-zero (i * recordWidth))
 
-  pub record-put : (r : Record) → recordRowsOf (set (set (set t (i * 3) (r .address)) (i * 3 + 1) (r .moment)) (i * 3 + 2) (r .place)) ≡ set (recordRowsOf t) i r
-  record-put r =
-      let e : set (set (set t (i * 3) (r .address)) (i * 3 + 1) (r .moment)) (i * 3 + 2) (r .place) ≡ sets t (i * 3) (recordFields r) = simp towards-suc in
-      rw e (rows-put record-kind t i r (omega arith))
+  pub record-put : RecordsIn (suc i) t → (r : Record) {u v x : List ℕ} → u ≡ set t (i * recordWidth) (r .address) → v ≡ set u (i * recordWidth + 1) (r .moment) → x ≡ set v (i * recordWidth + 2) (r .place)
+      → RecordSet t i r x
+  record-put l r e₁ e₂ e₃ =
+      let e : set (set (set t (i * recordWidth) (r .address)) (i * recordWidth + 1) (r .moment)) (i * recordWidth + 2) (r .place) ≡ sets t (i * recordWidth) (recordFields r) = simp towards-suc in
+      rw (e₃, e₂, e₁, e) (row-put record-kind t i r (omega arith))
 
--- a table of zeros has zero rows
-pub zero-rows : {A : Type 0} (K : Kind A) (z : A) → K .make (λ j. 0) ≡ z → (n : ℕ) → rowsBy (K .width) (K .make) (replicate n 0) ≡ replicate (n / K .width) z
-unfolding rowsBy
+-- a table of zeros: its length, and its rows
+pub length-zeros : (n : ℕ) → length (zeros n) ≡ n
+unfolding zeros
+length-zeros n = length-replicate {A = ℕ} n 0
+
+pub zero-rows : {A : Type 0} (K : Kind A) (z : A) → K .make (λ j. 0) ≡ z → (n : ℕ) → rowsBy (K .width) (K .make) (zeros n) ≡ replicate (n / K .width) z
+unfolding rowsBy zeros
 zero-rows K z e n =
-    let l : length {A = ℕ} (replicate n 0) ≡ n = length-replicate n 0 in
-    rw l (zero-tab (n / K .width) (rowAt (K .width) (K .make) (replicate n 0)) z (λ k h. K .same _ _ (λ j i. getD-replicate n (k * K .width + j)) ∙ e))
+    rw (length-zeros n) (zero-tab (n / K .width) (rowAt (K .width) (K .make) (replicate n 0)) z (λ k h. K .same _ _ (λ j i. getD-replicate n (k * K .width + j)) ∙ e))

@@ -1,3 +1,5 @@
 pub mod Tab
 pub mod Runs
 pub mod Laws
+pub mod Relaid
+pub mod View

@@ -1,7 +1,8 @@
 -- A flat table of numbers seen as rows of any width, and the rows of branches and of records.
+use mathlib.Core.Path.{_≡_}
 use mathlib.Core.List.{List, [], _∷_, _++_}
-use Prim.Native.Nat.{ℕ, zero, suc, _+_, _*_, _/_}
-use lib.ListN.{length, getD, drop}
+use Prim.Native.Nat.{ℕ, zero, suc, _+_, _*_, _/_, _≤_}
+use lib.ListN.{length, getD, set, drop, replicate}
 use Rattle.model.specs.declared.Branch.{Branch}
 use Rattle.model.specs.declared.Record.{Record}
 
@@ -9,6 +10,10 @@ use Rattle.model.specs.declared.Record.{Record}
 unfoldable pub tab : {A : Type 0} → ℕ → (ℕ → A) → List A
 tab zero f = []
 tab (suc n) f = f zero ∷ tab n (λ k. f (suc k))
+
+-- n zeros
+unfoldable pub zeros : ℕ → List ℕ
+zeros n = replicate n 0
 
 -- the row i of a table: the row that `make` makes of the w numbers from i × w on
 abbrev pub rowAt : {A : Type 0} → ℕ → ((ℕ → ℕ) → A) → List ℕ → ℕ → A
@@ -26,6 +31,14 @@ flat fields (x ∷ xs) = fields x ++ flat fields xs
 -- a table with these rows laid over its whole rows; numbers past the last whole row stay
 abbrev pub relaid : {A : Type 0} → ℕ → (A → List ℕ) → List A → List ℕ → List ℕ
 relaid w fields xs old = flat fields xs ++ drop (length old / w * w) old
+
+-- the table u is t with these rows: every number
+pub record Relaid {A : Type 0} (w : ℕ) (fields : A → List ℕ) (t : List ℕ) (xs : List A) (u : List ℕ) : Type 0 where
+  pub table : u ≡ relaid w fields xs t
+
+-- the table u is t with the row i set to x
+pub record RowSet {A : Type 0} (w : ℕ) (make : (ℕ → ℕ) → A) (fields : A → List ℕ) (t : List ℕ) (i : ℕ) (x : A) (u : List ℕ) : Type 0 where
+  pub laid : Relaid w fields t (set (rowsBy w make t) i x) u
 
 -- a branch row: start, end, cut
 abbrev pub branchWidth : ℕ
@@ -59,3 +72,24 @@ branchTable = relaid branchWidth branchFields
 
 abbrev pub recordTable : List Record → List ℕ → List ℕ
 recordTable = relaid recordWidth recordFields
+
+-- the table u is t with these rows
+abbrev pub BranchesLaid : List ℕ → List Branch → List ℕ → Type 0
+BranchesLaid = Relaid branchWidth branchFields
+
+abbrev pub RecordsLaid : List ℕ → List Record → List ℕ → Type 0
+RecordsLaid = Relaid recordWidth recordFields
+
+-- the table u is t with one row set
+abbrev pub BranchSet : List ℕ → ℕ → Branch → List ℕ → Type 0
+BranchSet = RowSet branchWidth branchOf branchFields
+
+abbrev pub RecordSet : List ℕ → ℕ → Record → List ℕ → Type 0
+RecordSet = RowSet recordWidth recordOf recordFields
+
+-- the table has n rows
+abbrev pub BranchesIn : ℕ → List ℕ → Type 0
+BranchesIn n t = n * branchWidth ≤ length t
+
+abbrev pub RecordsIn : ℕ → List ℕ → Type 0
+RecordsIn n t = n * recordWidth ≤ length t

@@ -2,12 +2,30 @@
 use model::Branch;
 use model::Head;
 use model::Record;
-ghost use Rattle.model.specs.Store.{zero-branch, zero-record};
 ghost use mathlib.Core.Path.{_≡_};
-ghost use Prim.Native.Nat.{_+_, _*_, _<_};
-ghost use lib.ListN.{length, getD, set};
+ghost use Prim.Native.Nat.{suc, _<_};
+ghost use lib.ListN.{length, set};
+ghost use Rattle.model.specs.ByNumber.{branch, entry};
 ghost use Rattle.rows.specs.View.{refusedWith, acceptedWith};
-ghost use Rattle.rows.specs.Rows.{branchRowsOf, recordRowsOf};
+ghost use Rattle.rows.specs.Rows.{branchRowsOf, recordRowsOf, BranchSet, RecordSet, BranchesIn, RecordsIn};
+
+// How many numbers a row has.
+pub const BRANCH_WIDTH: usize = 3;
+
+pub const RECORD_WIDTH: usize = 3;
+
+// A row of zeros.
+pub const ZERO_BRANCH: Branch = Branch {
+    start: 0,
+    end: 0,
+    cut: 0,
+};
+
+pub const ZERO_RECORD: Record = Record {
+    address: 0,
+    moment: 0,
+    place: 0,
+};
 
 // What a lookup finds.
 pub enum Found {
@@ -47,11 +65,25 @@ pub fn accepted(head: Head, value: u32) -> Outcome
     }
 }
 
-pub fn branch_at(t: &[u32], i: usize) -> Branch
-    requires { ⌜ i * 3 + 2 < length (now t) ⌝ }
-    ensures { λ r. ⌜ r ≡ getD (branchRowsOf (now (t .entry))) i zero-branch ⌝ }
+// How many whole rows a branch table has.
+pub fn branch_rows(t: &[u32]) -> usize
+    ensures { λ r. ⌜ r ≡ length (branchRowsOf (now (t .entry))) ⌝ }
 {
-    let at = i * 3;
+    t.len() / BRANCH_WIDTH
+}
+
+// How many whole rows a record table has.
+pub fn record_rows(t: &[u32]) -> usize
+    ensures { λ r. ⌜ r ≡ length (recordRowsOf (now (t .entry))) ⌝ }
+{
+    t.len() / RECORD_WIDTH
+}
+
+pub fn branch_at(t: &[u32], i: usize) -> Branch
+    requires { ⌜ BranchesIn (suc i) (now t) ⌝ }
+    ensures { λ r. ⌜ r ≡ branch (branchRowsOf (now (t .entry))) i ⌝ }
+{
+    let at = i * BRANCH_WIDTH;
     Branch {
         start: t[at],
         end: t[at + 1],
@@ -60,10 +92,10 @@ pub fn branch_at(t: &[u32], i: usize) -> Branch
 }
 
 pub fn record_at(t: &[u32], i: usize) -> Record
-    requires { ⌜ i * 3 + 2 < length (now t) ⌝ }
-    ensures { λ r. ⌜ r ≡ getD (recordRowsOf (now (t .entry))) i zero-record ⌝ }
+    requires { ⌜ RecordsIn (suc i) (now t) ⌝ }
+    ensures { λ r. ⌜ r ≡ entry (recordRowsOf (now (t .entry))) i ⌝ }
 {
-    let at = i * 3;
+    let at = i * RECORD_WIDTH;
     Record {
         address: t[at],
         moment: t[at + 1],
@@ -71,22 +103,30 @@ pub fn record_at(t: &[u32], i: usize) -> Record
     }
 }
 
-pub fn set_branch(t: &mut [u32], i: usize, b: Branch)
-    requires { ⌜ i * 3 + 2 < length (now t) ⌝ }
-    ensures { λ _. ⌜ (branchRowsOf (now (t .exit)) ≡ set (branchRowsOf (now (t .entry))) i b) × (length (now (t .exit)) ≡ length (now (t .entry))) ⌝ }
+// One number of a table, and no other.
+fn put(t: &mut [u32], i: usize, v: u32)
+    requires { ⌜ i < length (now t) ⌝ }
+    ensures { λ _. ⌜ now (t .exit) ≡ set (now (t .entry)) i v ⌝ }
 {
-    let at = i * 3;
-    t[at] = b.start;
-    t[at + 1] = b.end;
-    t[at + 2] = b.cut;
+    t[i] = v;
+}
+
+pub fn set_branch(t: &mut [u32], i: usize, b: Branch)
+    requires { ⌜ BranchesIn (suc i) (now t) ⌝ }
+    ensures { λ _. ⌜ BranchSet (now (t .entry)) i b (now (t .exit)) ⌝ }
+{
+    let at = i * BRANCH_WIDTH;
+    put(t, at, b.start);
+    put(t, at + 1, b.end);
+    put(t, at + 2, b.cut);
 }
 
 pub fn set_record(t: &mut [u32], i: usize, b: Record)
-    requires { ⌜ i * 3 + 2 < length (now t) ⌝ }
-    ensures { λ _. ⌜ (recordRowsOf (now (t .exit)) ≡ set (recordRowsOf (now (t .entry))) i b) × (length (now (t .exit)) ≡ length (now (t .entry))) ⌝ }
+    requires { ⌜ RecordsIn (suc i) (now t) ⌝ }
+    ensures { λ _. ⌜ RecordSet (now (t .entry)) i b (now (t .exit)) ⌝ }
 {
-    let at = i * 3;
-    t[at] = b.address;
-    t[at + 1] = b.moment;
-    t[at + 2] = b.place;
+    let at = i * RECORD_WIDTH;
+    put(t, at, b.address);
+    put(t, at + 1, b.moment);
+    put(t, at + 2, b.place);
 }

@@ -2,7 +2,7 @@
 use mathlib.Core.Path.{_≡_, ap, sym, _∙_}
 use mathlib.Core.List.{List, _∷_}
 use mathlib.Core.Bool.{Bool, true, _&&_}
-use Prim.Native.Nat.{ℕ, zero, suc, _+_, _*_, _-_, _≤_, _<_}
+use Prim.Native.Nat.{ℕ, zero, suc, _+_, _-_, _≤_, _<_}
 use native.Mathlib.Decide.{decLt}
 use native.Mathlib.Omega.{arith}
 use lib.Dec.{leb, eqb}
@@ -14,12 +14,12 @@ use Rattle.model.specs.Store.{Store, zero-branch, newest, branches, any, open-e
 use Rattle.model.specs.Lookup.{holds}
 use Rattle.model.specs.Soundness.{chained, openRow, branchesSound}
 use Rattle.model.proofs.Base.{same-test, and→, →and}
-use Rattle.model.proofs.Ancestry.{First, Link, Chain, Open}
+use Rattle.model.specs.ByNumber.{First, Link, Chain, Open, branch, newestOf, held, Stairs}
 use Rattle.model.proofs.Invariant.{→chained}
 use Rattle.model.proofs.Checked.{chained→}
-use Rattle.model.proofs.ByNumber.{branch, newestOf, top, held, Stairs, chain-line}
-use Rattle.rows.specs.Rows.{branchRowsOf}
-use Rattle.rows.specs.View.{storeOf}
+use Rattle.model.proofs.ByNumber.{top, chain-line}
+use Rattle.rows.specs.Rows.{branchRowsOf, BranchesIn}
+use Rattle.rows.specs.View.{Tables, storeOf}
 use Rattle.rows.proofs.Laws.{branch-count}
 
 -- a row that was read, number by number
@@ -98,34 +98,34 @@ module _ (floor : ℕ) (rows : List Branch) where
   passes-stairs n l h = chain-line floor rows n l (chained→ floor (newestOf rows n) h) .stairs
 
 -- check 2 of a store, by the number of its rows
-module _ (head : Head) (bt rt pt slab : List ℕ) (pos : 1 ≤ head .branches) (room : head .branches * 3 ≤ length bt) where
+module _ (head : Head) (t : Tables) (pos : 1 ≤ head .branches) (room : BranchesIn (head .branches) (t .branches)) where
   abbrev S : Store
-  S = storeOf head bt rt pt slab
+  S = storeOf head t
 
   abbrev last : Branch
-  last = branch (branchRowsOf bt) (head .branches - 1)
+  last = branch (branchRowsOf (t .branches)) (head .branches - 1)
 
-  top-of : newestOf (branchRowsOf bt) (head .branches) ≡ last ∷ newestOf (branchRowsOf bt) (head .branches - 1)
-  top-of = top-row (head .floor) (branchRowsOf bt) (head .branches) pos (omega (arith, branch-count bt))
+  top-of : newestOf (branchRowsOf (t .branches)) (head .branches) ≡ last ∷ newestOf (branchRowsOf (t .branches)) (head .branches - 1)
+  top-of = top-row (head .floor) (branchRowsOf (t .branches)) (head .branches) pos (omega (arith, branch-count (t .branches)))
 
-  pub sound-passes : branchesSound S ≡ true → Passes (head .floor) (branchRowsOf bt) (head .branches)
+  pub sound-passes : branchesSound S ≡ true → Passes (head .floor) (branchRowsOf (t .branches)) (head .branches)
   unfolding branchesSound newest branches
   sound-passes e = and→ (openRow (head .now) (newest S)) (chained (head .floor) (newest S)) e .1
 
   pub sound-open : branchesSound S ≡ true → Open (head .now) last
   unfolding branchesSound newest branches
   sound-open e =
-      let a : openRow (head .now) (newestOf (branchRowsOf bt) (head .branches)) ≡ true = and→ (openRow (head .now) (newest S)) (chained (head .floor) (newest S)) e .0 in
+      let a : openRow (head .now) (newestOf (branchRowsOf (t .branches)) (head .branches)) ≡ true = and→ (openRow (head .now) (newest S)) (chained (head .floor) (newest S)) e .0 in
       let b : (eqb (last .end) open-end && leb (last .start) (head .now)) ≡ true = rw top-of at a in
       let c : (eqb (last .end) open-end ≡ true) × (leb (last .start) (head .now) ≡ true) = and→ _ _ b in
       record { still = eqb-true _ _ (c .0); begun = leb-true _ _ (c .1) }
 
-  pub passes-sound : Passes (head .floor) (branchRowsOf bt) (head .branches) → Open (head .now) last → branchesSound S ≡ true
+  pub passes-sound : Passes (head .floor) (branchRowsOf (t .branches)) (head .branches) → Open (head .now) last → branchesSound S ≡ true
   unfolding branchesSound newest branches
   passes-sound h o =
       let b : (eqb (last .end) open-end && leb (last .start) (head .now)) ≡ true = →and (eq-eqb _ _ (o .still)) (le-leb _ _ (o .begun)) in
-      let a : openRow (head .now) (newestOf (branchRowsOf bt) (head .branches)) ≡ true = rw top-of b in
+      let a : openRow (head .now) (newestOf (branchRowsOf (t .branches)) (head .branches)) ≡ true = rw top-of b in
       →and a h
 
-  pub sound-stairs : branchesSound S ≡ true → Stairs (branchRowsOf bt) (head .branches)
-  sound-stairs e = passes-stairs (head .floor) (branchRowsOf bt) (head .branches) (omega (arith, branch-count bt)) (sound-passes e)
+  pub sound-stairs : branchesSound S ≡ true → Stairs (branchRowsOf (t .branches)) (head .branches)
+  sound-stairs e = passes-stairs (head .floor) (branchRowsOf (t .branches)) (head .branches) (omega (arith, branch-count (t .branches))) (sound-passes e)

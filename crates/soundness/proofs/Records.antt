@@ -2,7 +2,7 @@
 use mathlib.Core.Path.{_≡_, refl, ap, sym, _∙_}
 use mathlib.Core.List.{List, [], _∷_, _++_}
 use mathlib.Core.Bool.{Bool, true, false, _&&_}
-use Prim.Native.Nat.{ℕ, zero, suc, _+_, _*_, _-_, _≤_, _<_}
+use Prim.Native.Nat.{ℕ, zero, suc, _+_, _-_, _≤_, _<_}
 use native.Mathlib.Decide.{decLt}
 use native.Mathlib.Omega.{arith}
 use lib.Dec.{leb, ltb, eqb}
@@ -16,10 +16,10 @@ use Rattle.model.specs.Lookup.{holds}
 use Rattle.model.specs.Soundness.{precedes, ascending, placed, used, recordsSound}
 use Rattle.model.proofs.Base.{same-test, and→, →and}
 use Rattle.model.proofs.Checked.{placed-row, PlacedRow}
-use Rattle.model.proofs.ByNumber.{entry, held}
+use Rattle.model.specs.ByNumber.{entry, held}
 use Rattle.soundness.proofs.Tests.{refused}
-use Rattle.rows.specs.Rows.{branchRowsOf, recordRowsOf}
-use Rattle.rows.specs.View.{storeOf}
+use Rattle.rows.specs.Rows.{branchRowsOf, recordRowsOf, RecordsIn}
+use Rattle.rows.specs.View.{Tables, storeOf}
 use Rattle.rows.proofs.Laws.{record-count}
 
 -- one record after another, as read
@@ -138,16 +138,16 @@ module _ (s : Store) where
       let p : PlacedRow s i r [] = placed-row s i r [] e in
       record { address = p .fits .address; moment = p .fits .moment; inside = ltb-true _ _ (p .inside); named = eqb-true _ _ (p .named) }
 
-module _ (head : Head) (bt rt pt slab : List ℕ) where
+module _ (head : Head) (t : Tables) where
   abbrev S : Store
-  S = storeOf head bt rt pt slab
+  S = storeOf head t
 
   -- a record as it was read, against its row
   module _ (i : ℕ) (x y : Record) (d : x ≡ y) where
-    pub placement-no : (Placement (head .size) (head .now) pt i x → ⊥) → false ≡ placed S i (y ∷ [])
+    pub placement-no : (Placement (head .size) (head .now) (t .places) i x → ⊥) → false ≡ placed S i (y ∷ [])
     placement-no h = rw (← d) (refused (λ e. h (placement→ S i x e)))
 
-    pub placement-is : (r : Bool) → r ≡ held (branchRowsOf bt) (head .branches) (x .moment) → Placement (head .size) (head .now) pt i x → r ≡ placed S i (y ∷ [])
+    pub placement-is : (r : Bool) → r ≡ held (branchRowsOf (t .branches)) (head .branches) (x .moment) → Placement (head .size) (head .now) (t .places) i x → r ≡ placed S i (y ∷ [])
     unfolding placed held newest branches
     placement-is r e h =
         rw (← d)
@@ -156,23 +156,23 @@ module _ (head : Head) (bt rt pt slab : List ℕ) where
         (λ z. e ∙ placed-row S i x [] z .fits .held))
 
   -- check 3 of a store, by the number of its rows
-  module _ (room : head .records * 3 ≤ length rt) where
+  module _ (room : RecordsIn (head .records) (t .records)) where
     abbrev rs : List Record
-    rs = recordRowsOf rt
+    rs = recordRowsOf (t .records)
 
     enough : head .records ≤ length rs
-    enough = omega (arith, record-count rt)
+    enough = omega (arith, record-count (t .records))
 
     record Parts : Type 0 where
       ascends : ascending (take (head .records) rs) ≡ true
       places : placed S 1 (take (head .records) rs) ≡ true
-      count : used pt ≡ head .records
+      count : used (t .places) ≡ head .records
 
     parts : recordsSound S ≡ true → Parts
     unfolding recordsSound records
     parts e =
-        let a : (ascending (records S) ≡ true) × ((placed S 1 (records S) && eqb (used pt) (head .records)) ≡ true) = and→ _ _ e in
-        let b : (placed S 1 (records S) ≡ true) × (eqb (used pt) (head .records) ≡ true) = and→ _ _ (a .1) in
+        let a : (ascending (records S) ≡ true) × ((placed S 1 (records S) && eqb (used (t .places)) (head .records)) ≡ true) = and→ _ _ e in
+        let b : (placed S 1 (records S) ≡ true) × (eqb (used (t .places)) (head .records) ≡ true) = and→ _ _ (a .1) in
         record { ascends = a .0; places = b .0; count = eqb-true _ _ (b .1) }
 
     pub sound-after : recordsSound S ≡ true → (i : ℕ) → 0 < i → i < head .records → precedes (entry rs (i - 1)) (entry rs i) ≡ true
@@ -181,9 +181,9 @@ module _ (head : Head) (bt rt pt slab : List ℕ) where
     pub sound-placed : recordsSound S ≡ true → (i : ℕ) → i < head .records → placed S (suc i) (entry rs i ∷ []) ≡ true
     sound-placed e i l = placed-at S rs (head .records) i enough (parts e .places) l
 
-    pub sound-used : recordsSound S ≡ true → used pt ≡ head .records
+    pub sound-used : recordsSound S ≡ true → used (t .places) ≡ head .records
     sound-used e = parts e .count
 
-    pub →records : ascending (take (head .records) rs) ≡ true → placed S 1 (take (head .records) rs) ≡ true → used pt ≡ head .records → recordsSound S ≡ true
+    pub →records : ascending (take (head .records) rs) ≡ true → placed S 1 (take (head .records) rs) ≡ true → used (t .places) ≡ head .records → recordsSound S ≡ true
     unfolding recordsSound records
     →records a p u = →and a (→and p (eq-eqb _ _ u))

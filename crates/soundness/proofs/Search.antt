@@ -12,7 +12,8 @@ use Rattle.model.specs.Store.{zero-branch}
 use Rattle.model.specs.Lookup.{holds}
 use Rattle.model.proofs.Base.{case}
 use Rattle.model.proofs.Ancestry.{Holds, holds→, →holds}
-use Rattle.model.proofs.ByNumber.{branch, any-yes, any-no, held, Stairs}
+use Rattle.model.proofs.ByNumber.{any-yes, any-no}
+use Rattle.model.specs.ByNumber.{branch, held, Stairs}
 
 holds-no : (b : Branch) (t : ℕ) → (Holds b t → ⊥) → holds b t ≡ false
 holds-no b t h = case (holds b t) (λ e. absurd (h (holds→ b t e))) (λ e. e)

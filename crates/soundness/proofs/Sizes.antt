@@ -1,6 +1,5 @@
 -- Check 1: what the tests of the lengths say.
 use mathlib.Core.Path.{_≡_}
-use mathlib.Core.List.{List}
 use mathlib.Core.Bool.{true, false, _&&_}
 use Prim.Native.Nat.{ℕ, _/_, _%_, _≤_}
 use native.Mathlib.Omega.{arith}
@@ -11,83 +10,90 @@ use Rattle.model.specs.declared.Head.{Head}
 use Rattle.model.specs.Store.{Store, open-end}
 use Rattle.model.specs.Soundness.{sizesAllowed, inRange}
 use Rattle.model.proofs.Base.{and→, →and}
-use Rattle.model.proofs.Invariant.{Allowed, Sizes, →sizes, →inRange}
+use Rattle.model.proofs.Invariant.{→sizes, →inRange}
+use Rattle.model.specs.ByNumber.{Allowed, Sizes}
 use Rattle.model.proofs.Checked.{sizes→, inRange→}
-use Rattle.rows.specs.View.{storeOf, WholeRows}
+use Rattle.rows.specs.View.{Tables, storeOf}
+use Rattle.rows.specs.Rows.{branchWidth, recordWidth}
 use Rattle.rows.proofs.Laws.{branch-count, record-count}
-use Rattle.soundness.specs.Check.{wholeRows, allowedOf}
+use Rattle.soundness.specs.Check.{wholeRows, wholeTables, allowedOf}
 use Rattle.soundness.proofs.Tests.{refused}
 
 -- the lengths that are allowed, as statements
 pub record Lengths (size lb lr lp ls : ℕ) : Type 0 where
-  pub branches : lb % 3 ≡ 0
-  pub records : lr % 3 ≡ 0
-  pub allowed : Allowed size (lb / 3) (lr / 3) lp ls
+  pub branches : lb % branchWidth ≡ 0
+  pub records : lr % recordWidth ≡ 0
+  pub allowed : Allowed size (lb / branchWidth) (lr / recordWidth) lp ls
 
 module _ {size lb lr lp ls : ℕ} where
   pub lengths→ : allowedOf size lb lr lp ls ≡ true → Lengths size lb lr lp ls
   unfolding allowedOf wholeRows
   lengths→ e =
-      let p : ((eqb (lb % 3) 0 && eqb (lr % 3) 0) ≡ true) × (sizesAllowed size (lb / 3) (lr / 3) lp ls ≡ true) = and→ _ _ e in
-      let q : (eqb (lb % 3) 0 ≡ true) × (eqb (lr % 3) 0 ≡ true) = and→ _ _ (p .0) in
-      record { branches = eqb-true _ _ (q .0); records = eqb-true _ _ (q .1); allowed = sizes→ size (lb / 3) (lr / 3) lp ls (p .1) }
+      let p : ((eqb (lb % branchWidth) 0 && eqb (lr % recordWidth) 0) ≡ true) × (sizesAllowed size (lb / branchWidth) (lr / recordWidth) lp ls ≡ true) = and→ _ _ e in
+      let q : (eqb (lb % branchWidth) 0 ≡ true) × (eqb (lr % recordWidth) 0 ≡ true) = and→ _ _ (p .0) in
+      record { branches = eqb-true _ _ (q .0); records = eqb-true _ _ (q .1); allowed = sizes→ size (lb / branchWidth) (lr / recordWidth) lp ls (p .1) }
 
   pub →lengths : Lengths size lb lr lp ls → allowedOf size lb lr lp ls ≡ true
   unfolding allowedOf wholeRows
-  →lengths z = →and (→and (eq-eqb _ _ (z .branches)) (eq-eqb _ _ (z .records))) (→sizes size (lb / 3) (lr / 3) lp ls (z .allowed))
+  →lengths z = →and (→and (eq-eqb _ _ (z .branches)) (eq-eqb _ _ (z .records))) (→sizes size (lb / branchWidth) (lr / recordWidth) lp ls (z .allowed))
 
   pub lengths-no : (Lengths size lb lr lp ls → ⊥) → false ≡ allowedOf size lb lr lp ls
   lengths-no h = refused (λ e. h (lengths→ e))
 
--- both tables of rows are whole
-pub whole→ : (bt rt : List ℕ) → wholeRows (length bt) (length rt) ≡ true → WholeRows bt rt
-unfolding wholeRows
-whole→ bt rt e =
-    let p : (eqb (length bt % 3) 0 ≡ true) × (eqb (length rt % 3) 0 ≡ true) = and→ _ _ e in
-    record { branches = eqb-true _ _ (p .0); records = eqb-true _ _ (p .1) }
+-- both tables of rows are whole numbers of rows long, so that their rows are all that they hold
+pub record WholeRows (t : Tables) : Type 0 where
+  pub branches : length (t .branches) % branchWidth ≡ 0
+  pub records : length (t .records) % recordWidth ≡ 0
 
-pub →whole : (bt rt : List ℕ) → WholeRows bt rt → wholeRows (length bt) (length rt) ≡ true
-unfolding wholeRows
-→whole bt rt w = →and (eq-eqb _ _ (w .branches)) (eq-eqb _ _ (w .records))
+module _ (t : Tables) where
+  pub whole→ : wholeTables t ≡ true → WholeRows t
+  unfolding wholeRows
+  whole→ e =
+      let p : (eqb (length (t .branches) % branchWidth) 0 ≡ true) × (eqb (length (t .records) % recordWidth) 0 ≡ true) = and→ _ _ e in
+      record { branches = eqb-true _ _ (p .0); records = eqb-true _ _ (p .1) }
+
+  pub →whole : WholeRows t → wholeTables t ≡ true
+  unfolding wholeRows
+  →whole w = →and (eq-eqb _ _ (w .branches)) (eq-eqb _ _ (w .records))
 
 -- check 1, by the lengths
-pub record Ranges (head : Head) (lb lr lp ls : ℕ) : Type 0 where
-  pub lengths : Lengths (head .size) lb lr lp ls
+pub record Ranges (head : Head) (t : Tables) : Type 0 where
+  pub lengths : Lengths (head .size) (length (t .branches)) (length (t .records)) (length (t .places)) (length (t .slab))
   pub counted-low : 1 ≤ head .branches
-  pub counted-high : head .branches ≤ lb / 3
-  pub records-counted : head .records ≤ lr / 3
+  pub counted-high : head .branches ≤ length (t .branches) / branchWidth
+  pub records-counted : head .records ≤ length (t .records) / recordWidth
   pub floor-now : head .floor ≤ head .now
 
-module _ (head : Head) (bt rt pt slab : List ℕ) (high : head .now ≤ open-end) where
+module _ (head : Head) (t : Tables) (high : head .now ≤ open-end) where
   abbrev S : Store
-  S = storeOf head bt rt pt slab
+  S = storeOf head t
 
-  pub ranges→ : (wholeRows (length bt) (length rt) && inRange S) ≡ true → Ranges head (length bt) (length rt) (length pt) (length slab)
+  pub ranges→ : (wholeTables t && inRange S) ≡ true → Ranges head t
   ranges→ e =
-      let p : (wholeRows (length bt) (length rt) ≡ true) × (inRange S ≡ true) = and→ _ _ e in
-      let w : WholeRows bt rt = whole→ bt rt (p .0) in
+      let p : (wholeTables t ≡ true) × (inRange S ≡ true) = and→ _ _ e in
+      let w : WholeRows t = whole→ t (p .0) in
       let z : Sizes S = inRange→ S high (p .1) in
-      let a : Allowed (head .size) (length bt / 3) (length rt / 3) (length pt) (length slab) = rw (branch-count bt, record-count rt) at (z .allowed) in
+      let a : Allowed (head .size) (length (t .branches) / branchWidth) (length (t .records) / recordWidth) (length (t .places)) (length (t .slab)) = rw (branch-count (t .branches), record-count (t .records)) at (z .allowed) in
       record {
         lengths = record { branches = w .branches; records = w .records; allowed = a };
         counted-low = z .counted-low;
-        counted-high = omega (arith, z .counted-high, branch-count bt);
-        records-counted = omega (arith, z .records-counted, record-count rt);
+        counted-high = omega (arith, z .counted-high, branch-count (t .branches));
+        records-counted = omega (arith, z .records-counted, record-count (t .records));
         floor-now = z .floor-now;
       }
 
-  pub →ranges : Ranges head (length bt) (length rt) (length pt) (length slab) → (wholeRows (length bt) (length rt) && inRange S) ≡ true
+  pub →ranges : Ranges head t → (wholeTables t && inRange S) ≡ true
   →ranges r =
-      →and (→whole bt rt (record { branches = r .lengths .branches; records = r .lengths .records }))
+      →and (→whole t (record { branches = r .lengths .branches; records = r .lengths .records }))
       (→inRange S
       (record {
-        allowed = rw (branch-count bt, record-count rt) (r .lengths .allowed);
+        allowed = rw (branch-count (t .branches), record-count (t .records)) (r .lengths .allowed);
         counted-low = r .counted-low;
-        counted-high = omega (arith, r .counted-high, branch-count bt);
-        records-counted = omega (arith, r .records-counted, record-count rt);
+        counted-high = omega (arith, r .counted-high, branch-count (t .branches));
+        records-counted = omega (arith, r .records-counted, record-count (t .records));
         floor-now = r .floor-now;
         now-high = high;
       }))
 
-  pub ranges-no : (Ranges head (length bt) (length rt) (length pt) (length slab) → ⊥) → false ≡ (wholeRows (length bt) (length rt) && inRange S)
+  pub ranges-no : (Ranges head t → ⊥) → false ≡ (wholeTables t && inRange S)
   ranges-no h = refused (λ e. h (ranges→ e))

@@ -1,5 +1,4 @@
 -- The table checks over what is lent: flat tables of any length.
-use mathlib.Core.List.{List}
 use mathlib.Core.Bool.{Bool, cond, _&&_}
 use Prim.Native.Nat.{ℕ, _/_, _%_}
 use lib.Dec.{eqb}
@@ -7,16 +6,22 @@ use lib.ListN.{length}
 use Rattle.model.specs.declared.Head.{Head}
 use Rattle.model.specs.Soundness.{sizesAllowed, tableCheck}
 use Rattle.rows.specs.Rows.{branchWidth, recordWidth}
-use Rattle.rows.specs.View.{storeOf}
+use Rattle.rows.specs.View.{Tables, storeOf}
 
 -- a branch table of lb numbers and a record table of lr numbers are whole numbers of rows long
 unfoldable pub wholeRows : ℕ → ℕ → Bool
 wholeRows lb lr = eqb (lb % branchWidth) 0 && eqb (lr % recordWidth) 0
 
+abbrev pub wholeTables : Tables → Bool
+wholeTables t = wholeRows (length (t .branches)) (length (t .records))
+
 -- the volume size and the lengths that document 01 allows, of tables of lb, lr and lp numbers and a slab of ls bytes
 unfoldable pub allowedOf : ℕ → ℕ → ℕ → ℕ → ℕ → Bool
 allowedOf size lb lr lp ls = wholeRows lb lr && sizesAllowed size (lb / branchWidth) (lr / recordWidth) lp ls
 
+abbrev pub allowedIn : ℕ → Tables → Bool
+allowedIn size t = allowedOf size (length (t .branches)) (length (t .records)) (length (t .places)) (length (t .slab))
+
 -- the refusal of the table checks, 0 where there is none: 1 where a table's length is no whole number of rows
-unfoldable pub checkOf : Head → List ℕ → List ℕ → List ℕ → List ℕ → ℕ
-checkOf head bt rt pt slab = cond (wholeRows (length bt) (length rt)) (tableCheck (storeOf head bt rt pt slab)) 1
+unfoldable pub checkOf : Head → Tables → ℕ
+checkOf head t = cond (wholeTables t) (tableCheck (storeOf head t)) 1

@@ -1,19 +1,22 @@
 // The table checks 1, 2 and 3.
 use model::Head;
+use model::OPEN_END;
+use rows::BRANCH_WIDTH;
+use rows::RECORD_WIDTH;
 ghost use mathlib.Core.Path.{_≡_};
-ghost use mathlib.Core.List.{List, _∷_, []};
+ghost use mathlib.Core.List.{_∷_, []};
 ghost use mathlib.Core.Bool.{true, _&&_};
-ghost use Prim.Native.Nat.{ℕ, suc, _+_, _*_, _-_, _≤_, _<_};
+ghost use Prim.Native.Nat.{suc, _-_, _≤_, _<_};
 ghost use lib.ListN.{length};
 ghost use Rattle.model.specs.Soundness.{chained, precedes, placed, used, inRange, branchesSound, recordsSound};
-ghost use Rattle.model.proofs.ByNumber.{newestOf, held, entry, Stairs};
-ghost use Rattle.rows.specs.Rows.{branchRowsOf, recordRowsOf};
-ghost use Rattle.rows.specs.View.{storeOf};
-ghost use Rattle.soundness.specs.Check.{wholeRows, allowedOf, checkOf};
+ghost use Rattle.model.specs.ByNumber.{newestOf, held, entry, Stairs};
+ghost use Rattle.rows.specs.Rows.{branchRowsOf, recordRowsOf, BranchesIn, RecordsIn};
+ghost use Rattle.rows.specs.View.{Tables, tables, withBranches, withRecords, withPlaces, storeOf};
+ghost use Rattle.soundness.specs.Check.{wholeTables, allowedOf, checkOf};
 
 // Whether one of the first n branches holds the moment t: the first that ends at t or later is the only one that can.
 fn held_in(bt: &[u32], n: usize, t: u32) -> bool
-    requires { ⌜ n * 3 ≤ length (now bt) ⌝ }
+    requires { ⌜ BranchesIn n (now bt) ⌝ }
     requires { ⌜ Stairs (branchRowsOf (now bt)) n ⌝ }
     ensures { λ r. ⌜ r ≡ held (branchRowsOf (now (bt .entry))) n t ⌝ }
 {
@@ -39,7 +42,7 @@ fn held_in(bt: &[u32], n: usize, t: u32) -> bool
 
 // Whether the branch i, which is not the first, goes on the chain of those before it.
 fn linked(bt: &[u32], i: usize, floor: u32) -> bool
-    requires { ⌜ (0 < i) × (i * 3 + 3 ≤ length (now bt)) ⌝ }
+    requires { ⌜ (0 < i) × BranchesIn (suc i) (now bt) ⌝ }
     requires { ⌜ chained floor (newestOf (branchRowsOf (now bt)) i) ≡ true ⌝ }
     ensures { λ r. ⌜ r ≡ chained floor (newestOf (branchRowsOf (now (bt .entry))) (suc i)) ⌝ }
 {
@@ -61,8 +64,8 @@ fn linked(bt: &[u32], i: usize, floor: u32) -> bool
 
 // Check 2, in one pass over the counted branches.
 fn branches_sound(head: Head, bt: &[u32]) -> bool
-    requires { ⌜ (1 ≤ head .branches) × (head .branches * 3 ≤ length (now bt)) ⌝ }
-    ensures { λ r. ⌜ ((rt pt slab : List ℕ) → r ≡ branchesSound (storeOf head (now (bt .entry)) rt pt slab)) ⌝ }
+    requires { ⌜ (1 ≤ head .branches) × BranchesIn (head .branches) (now bt) ⌝ }
+    ensures { λ r. ⌜ ((t : Tables) → r ≡ branchesSound (storeOf head (withBranches (now (bt .entry)) t))) ⌝ }
 {
     let n = head.branches as usize;
     let first = rows::branch_at(bt, 0);
@@ -81,7 +84,7 @@ fn branches_sound(head: Head, bt: &[u32]) -> bool
         i += 1;
     }
     let last = rows::branch_at(bt, n - 1);
-    if last.end != 4294967295 {
+    if last.end != OPEN_END {
         return false;
     }
     if head.now < last.start {
@@ -92,7 +95,7 @@ fn branches_sound(head: Head, bt: &[u32]) -> bool
 
 // Whether the record i stands after the one before it.
 fn after(rt: &[u32], i: usize) -> bool
-    requires { ⌜ (0 < i) × (i * 3 + 3 ≤ length (now rt)) ⌝ }
+    requires { ⌜ (0 < i) × RecordsIn (suc i) (now rt) ⌝ }
     ensures { λ r. ⌜ r ≡ precedes (entry (recordRowsOf (now (rt .entry))) (i - 1)) (entry (recordRowsOf (now (rt .entry))) i) ⌝ }
 {
     let q = rows::record_at(rt, i - 1);
@@ -111,9 +114,9 @@ fn after(rt: &[u32], i: usize) -> bool
 
 // Whether the record i is sound by itself.
 fn record_placed(head: Head, bt: &[u32], rt: &[u32], pt: &[u32], i: usize) -> bool
-    requires { ⌜ (head .branches * 3 ≤ length (now bt)) × (i * 3 + 3 ≤ length (now rt)) ⌝ }
+    requires { ⌜ BranchesIn (head .branches) (now bt) × RecordsIn (suc i) (now rt) ⌝ }
     requires { ⌜ Stairs (branchRowsOf (now bt)) (head .branches) ⌝ }
-    ensures { λ r. ⌜ ((slab : List ℕ) → r ≡ placed (storeOf head (now (bt .entry)) (now (rt .entry)) (now (pt .entry)) slab) (suc i) (entry (recordRowsOf (now (rt .entry))) i ∷ [])) ⌝ }
+    ensures { λ r. ⌜ ((t : Tables) → r ≡ placed (storeOf head (withPlaces (now (pt .entry)) (withRecords (now (rt .entry)) (withBranches (now (bt .entry)) t)))) (suc i) (entry (recordRowsOf (now (rt .entry))) i ∷ [])) ⌝ }
 {
     let r = rows::record_at(rt, i);
     if head.size <= r.address {
@@ -150,9 +153,9 @@ fn in_use(pt: &[u32]) -> usize
 
 // Check 3, in one pass over the counted records and one over the places.
 fn records_sound(head: Head, bt: &[u32], rt: &[u32], pt: &[u32]) -> bool
-    requires { ⌜ (head .branches * 3 ≤ length (now bt)) × (head .records * 3 ≤ length (now rt)) ⌝ }
+    requires { ⌜ BranchesIn (head .branches) (now bt) × RecordsIn (head .records) (now rt) ⌝ }
     requires { ⌜ Stairs (branchRowsOf (now bt)) (head .branches) ⌝ }
-    ensures { λ r. ⌜ ((slab : List ℕ) → r ≡ recordsSound (storeOf head (now (bt .entry)) (now (rt .entry)) (now (pt .entry)) slab)) ⌝ }
+    ensures { λ r. ⌜ ((t : Tables) → r ≡ recordsSound (storeOf head (withPlaces (now (pt .entry)) (withRecords (now (rt .entry)) (withBranches (now (bt .entry)) t))))) ⌝ }
 {
     let n = head.records as usize;
     let mut i: usize = 0;
@@ -180,10 +183,10 @@ fn records_sound(head: Head, bt: &[u32], rt: &[u32], pt: &[u32]) -> bool
 pub fn sizes_allowed(size: u32, lb: usize, lr: usize, lp: usize, ls: usize) -> bool
     ensures { λ r. ⌜ r ≡ allowedOf size lb lr lp ls ⌝ }
 {
-    if lb % 3 != 0 {
+    if lb % BRANCH_WIDTH != 0 {
         return false;
     }
-    if lr % 3 != 0 {
+    if lr % RECORD_WIDTH != 0 {
         return false;
     }
     if size < 1 {
@@ -192,16 +195,16 @@ pub fn sizes_allowed(size: u32, lb: usize, lr: usize, lp: usize, ls: usize) -> b
     if 65536 < size {
         return false;
     }
-    if lb / 3 < 1 {
+    if lb / BRANCH_WIDTH < 1 {
         return false;
     }
-    if 4096 < lb / 3 {
+    if 4096 < lb / BRANCH_WIDTH {
         return false;
     }
-    if lr / 3 < 1 {
+    if lr / RECORD_WIDTH < 1 {
         return false;
     }
-    if 65536 < lr / 3 {
+    if 65536 < lr / RECORD_WIDTH {
         return false;
     }
     if lp < 1 {
@@ -218,7 +221,7 @@ pub fn sizes_allowed(size: u32, lb: usize, lr: usize, lp: usize, ls: usize) -> b
 
 // Check 1.
 fn in_range(head: Head, bt: &[u32], rt: &[u32], pt: &[u32], slab: &[u8]) -> bool
-    ensures { λ r. ⌜ r ≡ (wholeRows (length (now (bt .entry))) (length (now (rt .entry))) && inRange (storeOf head (now (bt .entry)) (now (rt .entry)) (now (pt .entry)) (now (slab .entry)))) ⌝ }
+    ensures { λ r. ⌜ r ≡ (wholeTables (tables (now (bt .entry)) (now (rt .entry)) (now (pt .entry)) (now (slab .entry))) && inRange (storeOf head (tables (now (bt .entry)) (now (rt .entry)) (now (pt .entry)) (now (slab .entry))))) ⌝ }
 {
     let sizes = sizes_allowed(head.size, bt.len(), rt.len(), pt.len(), slab.len());
     if !sizes {
@@ -228,11 +231,11 @@ fn in_range(head: Head, bt: &[u32], rt: &[u32], pt: &[u32], slab: &[u8]) -> bool
     if nb < 1 {
         return false;
     }
-    if bt.len() / 3 < nb {
+    if bt.len() / BRANCH_WIDTH < nb {
         return false;
     }
     let nr = head.records as usize;
-    if rt.len() / 3 < nr {
+    if rt.len() / RECORD_WIDTH < nr {
         return false;
     }
     if head.now < head.floor {
@@ -243,7 +246,7 @@ fn in_range(head: Head, bt: &[u32], rt: &[u32], pt: &[u32], slab: &[u8]) -> bool
 
 // The table checks, in their order: 0, or the number of the first that refuses.
 pub fn check(head: Head, bt: &[u32], rt: &[u32], pt: &[u32], slab: &[u8]) -> u32
-    ensures { λ r. ⌜ r ≡ checkOf head (now (bt .entry)) (now (rt .entry)) (now (pt .entry)) (now (slab .entry)) ⌝ }
+    ensures { λ r. ⌜ r ≡ checkOf head (tables (now (bt .entry)) (now (rt .entry)) (now (pt .entry)) (now (slab .entry))) ⌝ }
 {
     let ranges = in_range(head, bt, rt, pt, slab);
     if !ranges {

@@ -1,22 +1,20 @@
 -- What revert and read ask of the tables; a sound store has it.
 use mathlib.Core.List.{List}
-use Prim.Native.Nat.{ℕ, _*_, _/_, _≤_}
-use lib.ListN.{length, take}
+use Prim.Native.Nat.{ℕ, _≤_, _<_}
+use lib.ListN.{take}
 use Rattle.model.specs.declared.Head.{Head}
-use Rattle.model.proofs.Latest.{Asc}
-use Rattle.model.proofs.Ancestry.{Falls}
-use Rattle.model.proofs.ByNumber.{newestOf}
-use Rattle.rows.specs.Rows.{branchRowsOf, recordRowsOf}
+use Rattle.model.specs.ByNumber.{Asc, Falls, newestOf}
+use Rattle.rows.specs.Rows.{branchRowsOf, recordRowsOf, BranchesIn, RecordsIn}
 
--- the branch count is 1 to the rows lent, of which there are 4,096 at most
+-- the counted rows are there, one at least, and the count can grow by 1
 pub record Revertible (head : Head) (bt : List ℕ) : Type 0 where
   pub some : 1 ≤ head .branches
-  pub counted : head .branches ≤ length bt / 3
-  pub few : length bt / 3 ≤ 4096
+  pub counted : BranchesIn (head .branches) bt
+  pub few : head .branches < 4294967295
 
 -- the counted rows are there, records ascend, and no branch is cut above its start
 pub record Readable (head : Head) (bt rt : List ℕ) : Type 0 where
-  pub branches : head .branches * 3 ≤ length bt
-  pub records : head .records * 3 ≤ length rt
+  pub branches : BranchesIn (head .branches) bt
+  pub records : RecordsIn (head .records) rt
   pub ascends : Asc (take (head .records) (recordRowsOf rt))
   pub falls : Falls (newestOf (branchRowsOf bt) (head .branches))

@@ -1,24 +1,30 @@
 // The requests that store no page: mark, revert and read.
 use model::Branch;
 use model::Head;
-use rows::Found;
+use model::OPEN_END;
 use rows::Outcome;
 ghost use mathlib.Core.Path.{_≡_};
-ghost use mathlib.Core.List.{List};
-ghost use Prim.Native.Nat.{ℕ};
 ghost use lib.ListN.{length};
-ghost use Rattle.model.specs.Step.{doMark, doRevert, doRead};
+ghost use Rattle.model.specs.Lookup.{isReadable};
+ghost use Rattle.model.specs.Wire.{mark, revert, readAt};
+ghost use Rattle.model.specs.Step.{doRevert};
 ghost use Rattle.rows.specs.Rows.{branchRowsOf};
-ghost use Rattle.rows.specs.View.{storeOf, foundOf, steppedOf};
-ghost use Rattle.store.specs.Outcome.{recordRead};
+ghost use Rattle.rows.specs.View.{Tables, withBranches, withRecords, storeOf, Carried};
 ghost use Rattle.store.specs.Asked.{Revertible, Readable};
+
+// Whether a moment up to now can be read.
+pub fn readable(head: Head, m: u32) -> bool
+    ensures { λ r. ⌜ r ≡ isReadable (head .floor) m ⌝ }
+{
+    head.floor <= m
+}
 
 // Seals now; now grows by 1.
 pub fn mark(head: Head) -> Outcome
-    ensures { λ r. ⌜ ((bt rt pt slab : List ℕ) → steppedOf r bt rt pt slab ≡ doMark (storeOf head bt rt pt slab)) ⌝ }
+    ensures { λ r. ⌜ ((t : Tables) → Carried head t mark r t) ⌝ }
 {
     let current = head.now;
-    if 4294967295 <= current {
+    if OPEN_END <= current {
         return rows::refused(head, 10);
     }
     let next = current + 1;
@@ -34,21 +40,22 @@ pub fn mark(head: Head) -> Outcome
 
 // The refusal of a revert to a moment, over a branch table of so many rows; 0 where there is none.
 pub fn revert_refusal(head: Head, rows: usize, to: u32) -> u32
-    ensures { λ r. ⌜ ((bt rt pt slab : List ℕ) → length (branchRowsOf bt) ≡ rows → r ≡ doRevert (storeOf head bt rt pt slab) to .answer .refusal) ⌝ }
+    ensures { λ r. ⌜ ((t : Tables) → length (branchRowsOf (t .branches)) ≡ rows → r ≡ doRevert (storeOf head t) to .answer .refusal) ⌝ }
 {
-    let present = head.now;
-    let floor = head.floor;
-    let n = head.branches as usize;
-    if to < floor {
+    let below = !readable(head, to);
+    let above = head.now <= to;
+    let late = OPEN_END <= head.now;
+    let full = rows <= head.branches as usize;
+    if below {
         return 8;
     }
-    if present <= to {
+    if above {
         return 9;
     }
-    if 4294967295 <= present {
+    if late {
         return 10;
     }
-    if rows <= n {
+    if full {
         return 7;
     }
     0
@@ -57,9 +64,9 @@ pub fn revert_refusal(head: Head, rows: usize, to: u32) -> u32
 // Seals now as the end of the current branch; a new branch starts after it, with the moment m as its cut.
 pub fn revert(head: Head, bt: &mut [u32], m: u32) -> Outcome
     requires { ⌜ Revertible head (now bt) ⌝ }
-    ensures { λ r. ⌜ ((rt pt slab : List ℕ) → steppedOf r (now (bt .exit)) rt pt slab ≡ doRevert (storeOf head (now (bt .entry)) rt pt slab) m) ⌝ }
+    ensures { λ r. ⌜ ((t : Tables) → Carried head (withBranches (now (bt .entry)) t) (revert m) r (withBranches (now (bt .exit)) t)) ⌝ }
 {
-    let refusal = revert_refusal(head, bt.len() / 3, m);
+    let refusal = revert_refusal(head, rows::branch_rows(bt), m);
     if refusal != 0 {
         return rows::refused(head, refusal);
     }
@@ -75,7 +82,7 @@ pub fn revert(head: Head, bt: &mut [u32], m: u32) -> Outcome
     rows::set_branch(bt, n - 1, closed);
     let opened = Branch {
         start: next,
-        end: 4294967295,
+        end: OPEN_END,
         cut: m,
     };
     rows::set_branch(bt, n, opened);
@@ -92,17 +99,18 @@ pub fn revert(head: Head, bt: &mut [u32], m: u32) -> Outcome
 // The record whose page the address a has at the moment m.
 pub fn read(head: Head, bt: &[u32], rt: &[u32], a: u32, m: u32) -> Outcome
     requires { ⌜ Readable head (now bt) (now rt) ⌝ }
-    ensures { λ r. ⌜ ((pt slab : List ℕ) → steppedOf r (now (bt .entry)) (now (rt .entry)) pt slab ≡ doRead (storeOf head (now (bt .entry)) (now (rt .entry)) pt slab) a m) ⌝ }
-    ensures { λ r. ⌜ ((pt slab : List ℕ) → foundOf (r .found) ≡ recordRead (storeOf head (now (bt .entry)) (now (rt .entry)) pt slab) a m) ⌝ }
+    ensures { λ r. ⌜ ((t : Tables) → Carried head (withRecords (now (rt .entry)) (withBranches (now (bt .entry)) t)) (readAt a m) r (withRecords (now (rt .entry)) (withBranches (now (bt .entry)) t))) ⌝ }
 {
-    let last = head.now;
-    if head.size <= a {
+    let outside = head.size <= a;
+    let gone = !readable(head, m);
+    let ahead = head.now < m;
+    if outside {
         return rows::refused(head, 4);
     }
-    if m < head.floor {
+    if gone {
         return rows::refused(head, 8);
     }
-    if last < m {
+    if ahead {
         return rows::refused(head, 9);
     }
     let nb = head.branches as usize;

@@ -2,20 +2,22 @@
 use Prim.Native.Nat.{ℕ, suc, _+_, _*_, _/_, _%_, _^_, _≤_, _<_}
 use mathlib.Core.Path.{_≡_, sym, ap, ap₂, _∙_}
 use mathlib.Core.List.{List, [], _∷_, _++_, append-nil}
-use mathlib.Core.Bool.{true, false, _&&_}
+use mathlib.Core.Bool.{true, false}
 use native.Mathlib.Omega.{arith}
-use lib.Dec.{eqb, leb}
+use lib.Dec.{eqb}
 use lib.ListN.{length, getD, set, take, drop, drop-of-length-le, length-drop}
 use lib.Seq.{length-take-le, getD-drop, take-suc, take-suc-set, take-all}
 use borrow.Author.Tests.{eqb-true, eq-eqb, leb-true, le-leb}
 use Rattle.model.specs.Wire.{number, bytes}
 use Rattle.model.proofs.Base.{case, and→, →and}
-use Rattle.rows.specs.Rows.{flat}
+use Rattle.rows.specs.Rows.{flat, branchWidth, recordWidth}
 use Rattle.rows.proofs.Tab.{getD-tab}
 use Rattle.wire.specs.Answers.{inFront}
 use Rattle.tables.specs.Numbers.{spelledAt, spelled, numbersOf, bytesOf}
-use Rattle.tables.specs.Tables.{lengthsFit}
-use Rattle.tables.proofs.Spelling.{number-fits, take-fits, flat-append, length-flat, length-spelled}
+use Rattle.tables.specs.Tables.{rowsFit, lengthsFit}
+use Rattle.model.proofs.Bytes.{number-fits, take-fits}
+use Rattle.rows.proofs.Relaid.{flat-append}
+use Rattle.tables.proofs.Spelling.{length-flat, length-spelled}
 
 one : (src : List ℕ) (i : ℕ) → i < length src / 4 → getD (numbersOf src) i 0 ≡ spelledAt 4 src i
 unfolding spelled
@@ -59,22 +61,22 @@ bytes-all src dst i l h =
 -- the lengths that may be lent, as statements
 pub record Lengths (h b r p : ℕ) : Type 0 where
   pub head : h ≡ 20
-  pub branches : b % 12 ≡ 0
-  pub branches-most : b ≤ 49152
-  pub records : r % 12 ≡ 0
-  pub records-most : r ≤ 786432
+  pub branches : b % (branchWidth * 4) ≡ 0
+  pub branches-most : b ≤ branchWidth * 4 * 4096
+  pub records : r % (recordWidth * 4) ≡ 0
+  pub records-most : r ≤ recordWidth * 4 * 65536
   pub places : p % 4 ≡ 0
-  pub places-most : p ≤ 262144
+  pub places-most : p ≤ 4 * 65536
 
 module _ {h b r p : ℕ} where
   pub lengths→ : lengthsFit h b r p ≡ true → Lengths h b r p
   unfolding lengthsFit
   lengths→ e =
       let x = and→ (eqb h 20) _ e in
-      let y = and→ (eqb (b % 12) 0 && leb b 49152) _ (x .1) in
-      let z = and→ (eqb (r % 12) 0 && leb r 786432) _ (y .1) in
-      let k = and→ (eqb (b % 12) 0) _ (y .0) in
-      let l = and→ (eqb (r % 12) 0) _ (z .0) in
+      let y = and→ (rowsFit branchWidth 4096 b) _ (x .1) in
+      let z = and→ (rowsFit recordWidth 65536 r) _ (y .1) in
+      let k = and→ (eqb (b % (branchWidth * 4)) 0) _ (y .0) in
+      let l = and→ (eqb (r % (recordWidth * 4)) 0) _ (z .0) in
       let m = and→ (eqb (p % 4) 0) _ (z .1) in
       record {
         head = eqb-true _ _ (x .0);

@@ -1,10 +1,37 @@
 // Head and tables as bytes, four a number, most significant first.
 use model::Head;
+use rows::BRANCH_WIDTH;
+use rows::RECORD_WIDTH;
 ghost use mathlib.Core.Path.{_≡_};
 ghost use Prim.Native.Nat.{_*_};
 ghost use lib.ListN.{length};
+ghost use Rattle.rows.specs.Rows.{zeros, branchWidth, recordWidth};
+ghost use Rattle.rows.specs.View.{numberTables};
 ghost use Rattle.tables.specs.Numbers.{numbersOf, Written, headOf, headNumbers};
-ghost use Rattle.tables.specs.Tables.{lengthsFit, Room, Loaded, Saved};
+ghost use Rattle.tables.specs.Tables.{numbersIn, lengthsFit, Room, Saved};
+
+// The numbers of the head, and its bytes.
+pub const HEAD_NUMBERS: usize = 5;
+
+pub const HEAD_BYTES: usize = HEAD_NUMBERS * 4;
+
+// The most numbers that a table may have: 4,096 branches, 65,536 records, 65,536 places.
+pub const BRANCH_NUMBERS: usize = 4096 * BRANCH_WIDTH;
+
+pub const RECORD_NUMBERS: usize = 65536 * RECORD_WIDTH;
+
+pub const PLACE_NUMBERS: usize = 65536;
+
+// The bytes of a row, and of the longest table.
+const BRANCH_BYTES: usize = BRANCH_WIDTH * 4;
+
+const RECORD_BYTES: usize = RECORD_WIDTH * 4;
+
+const BRANCH_MOST: usize = BRANCH_NUMBERS * 4;
+
+const RECORD_MOST: usize = RECORD_NUMBERS * 4;
+
+const PLACE_MOST: usize = PLACE_NUMBERS * 4;
 
 // The numbers that the bytes of src spell.
 pub fn get_all(src: &[u8], dst: &mut [u32])
@@ -33,7 +60,7 @@ pub fn get_head(head: &[u8]) -> Head
     requires { ⌜ length (now head) ≡ 20 ⌝ }
     ensures { λ r. ⌜ r ≡ headOf (numbersOf (now (head .entry))) ⌝ }
 {
-    let mut ns = [0u32; 5];
+    let mut ns = [0u32; HEAD_NUMBERS];
     get_all(head, &mut ns);
     Head {
         size: ns[0],
@@ -57,25 +84,25 @@ pub fn put_head(head: &mut [u8], h: Head)
 pub fn lengths_fit(h: usize, b: usize, r: usize, p: usize) -> bool
     ensures { λ k. ⌜ k ≡ lengthsFit h b r p ⌝ }
 {
-    if h != 20 {
+    if h != HEAD_BYTES {
         return false;
     }
-    if b % 12 != 0 {
+    if b % BRANCH_BYTES != 0 {
         return false;
     }
-    if 49152 < b {
+    if BRANCH_MOST < b {
         return false;
     }
-    if r % 12 != 0 {
+    if r % RECORD_BYTES != 0 {
         return false;
     }
-    if 786432 < r {
+    if RECORD_MOST < r {
         return false;
     }
     if p % 4 != 0 {
         return false;
     }
-    if 262144 < p {
+    if PLACE_MOST < p {
         return false;
     }
     true
@@ -90,8 +117,8 @@ pub fn load(
     rt: &mut [u32],
     pt: &mut [u32],
 )
-    requires { ⌜ Room (length (now branches)) (length (now records)) (length (now places)) (length (now bt)) (length (now rt)) (length (now pt)) ⌝ }
-    ensures { λ _. ⌜ Loaded (now (branches .entry)) (now (records .entry)) (now (places .entry)) (now (bt .exit)) (now (rt .exit)) (now (pt .exit)) ⌝ }
+    requires { ⌜ Room (numberTables (now branches) (now records) (now places)) (numberTables (now bt) (now rt) (now pt)) ⌝ }
+    ensures { λ _. ⌜ numberTables (now (bt .exit)) (now (rt .exit)) (now (pt .exit)) ≡ numbersIn (numberTables (now (branches .entry)) (now (records .entry)) (now (places .entry))) ⌝ }
 {
     get_all(branches, bt);
     get_all(records, rt);
@@ -107,8 +134,8 @@ pub fn save(
     records: &mut [u8],
     places: &mut [u8],
 )
-    requires { ⌜ Room (length (now branches)) (length (now records)) (length (now places)) (length (now bt)) (length (now rt)) (length (now pt)) ⌝ }
-    ensures { λ _. ⌜ Saved (now (bt .entry)) (now (rt .entry)) (now (pt .entry)) (now (branches .exit)) (now (records .exit)) (now (places .exit)) ⌝ }
+    requires { ⌜ Room (numberTables (now branches) (now records) (now places)) (numberTables (now bt) (now rt) (now pt)) ⌝ }
+    ensures { λ _. ⌜ Saved (numberTables (now (bt .entry)) (now (rt .entry)) (now (pt .entry))) (numberTables (now (branches .exit)) (now (records .exit)) (now (places .exit))) ⌝ }
 {
     put_all(bt, branches);
     put_all(rt, records);
@@ -116,22 +143,22 @@ pub fn save(
 }
 
 // Room for as many branch rows as may be lent.
-pub fn branch_room() -> [u32; 12288]
-    ensures { λ r. ⌜ length r ≡ 12288 ⌝ }
+pub fn branch_room() -> [u32; BRANCH_NUMBERS]
+    ensures { λ r. ⌜ r ≡ zeros (4096 * branchWidth) ⌝ }
 {
-    [0u32; 12288]
+    [0u32; BRANCH_NUMBERS]
 }
 
 // Room for as many record rows as may be lent.
-pub fn record_room() -> [u32; 196608]
-    ensures { λ r. ⌜ length r ≡ 196608 ⌝ }
+pub fn record_room() -> [u32; RECORD_NUMBERS]
+    ensures { λ r. ⌜ r ≡ zeros (65536 * recordWidth) ⌝ }
 {
-    [0u32; 196608]
+    [0u32; RECORD_NUMBERS]
 }
 
 // Room for as many place rows as may be lent.
-pub fn place_room() -> [u32; 65536]
-    ensures { λ r. ⌜ length r ≡ 65536 ⌝ }
+pub fn place_room() -> [u32; PLACE_NUMBERS]
+    ensures { λ r. ⌜ r ≡ zeros 65536 ⌝ }
 {
-    [0u32; 65536]
+    [0u32; PLACE_NUMBERS]
 }

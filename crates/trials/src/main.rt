@@ -1,240 +1,235 @@
-// The store against a plain reference in code: every short list of requests over small tables, and many long ones.
-mod judge;
-mod layout;
-mod lists;
-mod reference;
-mod request;
-mod trial;
-mod words;
+// The store against a plain reference in code: every short list of requests over small tables, many long ones, and seeded faults.
+mod text;
 
-use crate::layout::BASE;
-use crate::layout::BATCHES;
-use crate::layout::DIFFER;
-use crate::layout::FIRST;
-use crate::layout::MODE;
-use crate::layout::READ;
-use crate::layout::RUN;
-use crate::layout::SEED;
-use crate::layout::SEEN;
-use crate::layout::SIZE;
-use crate::trial::family;
-use crate::words::get;
-use crate::words::plus;
-use crate::words::put;
-use crate::words::put_four;
+use trial_turns::family;
+use trial_words::layout::BASE;
+use trial_words::layout::BATCHES;
+use trial_words::layout::BRANCH_LENGTH;
+use trial_words::layout::CHANGES;
+use trial_words::layout::DIFFER;
+use trial_words::layout::FAULT;
+use trial_words::layout::FAULTS;
+use trial_words::layout::FIRST;
+use trial_words::layout::MODE;
+use trial_words::layout::Numbers;
+use trial_words::layout::READ;
+use trial_words::layout::RUN;
+use trial_words::layout::SEED;
+use trial_words::layout::SEEN;
+use trial_words::layout::SIZE;
+use trial_words::words::get;
+use trial_words::words::plus;
+use trial_words::words::put;
+use trial_words::words::put_four;
 ghost use mathlib.Core.Path.{_≡_};
 ghost use lib.ListN.{length};
 
-fn numbers() -> [u32; 5120]
-    ensures { λ r. ⌜ length r ≡ 5120 ⌝ }
+// How lists are made, letters, length, lists.
+struct Spread {
+    mode: u32,
+    letters: u32,
+    length: u32,
+    lists: u32,
+}
+
+// The family of the faults is the last.
+const FAULT_FAMILY: u32 = 20;
+
+fn numbers() -> [u32; 5376]
+    ensures { λ r. ⌜ length r ≡ 5376 ⌝ }
 {
-    [0u32; 5120]
+    [0u32; 5376]
 }
 
-// A 1, 1 branch row, 1 record row, 1 place.
-fn on_least(w: &mut [u32]) {
-    let mut bt = [0u32; 3];
-    let mut rt = [0u32; 3];
-    let mut pt = [0u32; 1];
-    let mut slab = [0u8; 256];
-    let mut input = io::buffer();
-    let mut answers = io::buffer();
-    put_four(w, SIZE, 1, 1, 1, 1);
-    family(
+fn lists_of(mode: u32, letters: u32, length: u32, lists: u32) -> Spread {
+    Spread {
+        mode,
+        letters,
+        length,
+        lists,
+    }
+}
+
+// The k-th family.
+fn in_family(k: u32) -> Spread {
+    match k {
+        0 => lists_of(0, 18, 1, 18),
+        1 => lists_of(0, 18, 2, 324),
+        2 => lists_of(0, 18, 3, 5832),
+        3 => lists_of(0, 18, 4, 104976),
+        4 => lists_of(1, 18, 1, 18),
+        5 => lists_of(1, 18, 2, 324),
+        6 => lists_of(1, 18, 3, 5832),
+        7 => lists_of(1, 18, 4, 104976),
+        8 => lists_of(0, 10, 5, 100000),
+        9 => lists_of(1, 10, 5, 100000),
+        10 => lists_of(1, 7, 6, 117649),
+        11 => lists_of(3, 5, 3, 98750),
+        12 => lists_of(5, 5, 3, 98000),
+        13 => lists_of(2, 1, 40, 500),
+        14 => lists_of(2, 1, 40, 1500),
+        15 => lists_of(2, 1, 40, 1500),
+        16 => lists_of(2, 1, 40, 1000),
+        17 => lists_of(2, 1, 10, 1000),
+        18 => lists_of(0, 18, 2, 324),
+        19 => lists_of(2, 1, 40, 100),
+        _ => lists_of(0, 18, 2, 324),
+    }
+}
+
+// Its store, by size.
+fn store_of(k: u32) -> u32 {
+    match k {
+        13 => 0,
+        10 | 15 | 17 => 2,
+        16 | 19 => 3,
+        _ => 1,
+    }
+}
+
+// The first letter of its alphabet, and its first moment.
+fn first_of(k: u32) -> u32 {
+    match k {
+        11 | 12 => 18,
+        _ => 0,
+    }
+}
+
+fn base_of(k: u32) -> u32 {
+    match k {
+        17 => 4294967285,
+        _ => 0,
+    }
+}
+
+// Whether changes are tried, and whether its line is written, or it counts with the next.
+fn changes_of(k: u32) -> u32 {
+    match k {
+        18 | 19 => 1,
+        _ => 0,
+    }
+}
+
+fn counts_with_next(k: u32) -> bool {
+    match k {
+        0..=2 => true,
+        4..=6 => true,
+        _ => false,
+    }
+}
+
+// Volume pages, branch rows, record rows and place rows of a store.
+fn set_sizes(w: &mut Numbers, store: u32) {
+    match store {
+        0 => set_lengths(w, 1, 1, 1, 1),
+        1 => set_lengths(w, 2, 3, 4, 3),
+        2 => set_lengths(w, 3, 6, 5, 6),
+        _ => set_lengths(w, 4, 16, 20, 16),
+    }
+}
+
+fn set_lengths(w: &mut Numbers, size: u32, branches: u32, records: u32, places: u32) {
+    put_four(w, SIZE, size, branches, records, places);
+    put_four(
         w,
-        &mut bt,
-        &mut rt,
-        &mut pt,
-        &mut slab,
-        &mut input,
-        &mut answers,
+        BRANCH_LENGTH,
+        branches % 65536 * 3,
+        records % 65536 * 3,
+        places,
+        places % 65536 * 256,
     );
 }
 
-// A 2, 3 branch rows, 4 record rows, 3 places.
-fn on_small(w: &mut [u32]) {
-    let mut bt = [0u32; 9];
-    let mut rt = [0u32; 12];
-    let mut pt = [0u32; 3];
-    let mut slab = [0u8; 768];
-    let mut input = io::buffer();
-    let mut answers = io::buffer();
-    put_four(w, SIZE, 2, 3, 4, 3);
-    family(
-        w,
-        &mut bt,
-        &mut rt,
-        &mut pt,
-        &mut slab,
-        &mut input,
-        &mut answers,
-    );
+fn set_family(w: &mut Numbers, k: u32) {
+    let l = in_family(k);
+    put_four(w, MODE, l.mode, l.letters, l.length, l.lists);
+    put(w, FIRST, first_of(k));
+    put(w, BASE, base_of(k));
+    put(w, CHANGES, changes_of(k));
+    set_sizes(w, store_of(k));
 }
 
-// A 3, 6 branch rows, 5 record rows, 6 places.
-fn on_middle(w: &mut [u32]) {
-    let mut bt = [0u32; 18];
-    let mut rt = [0u32; 15];
-    let mut pt = [0u32; 6];
-    let mut slab = [0u8; 1536];
-    let mut input = io::buffer();
-    let mut answers = io::buffer();
-    put_four(w, SIZE, 3, 6, 5, 6);
-    family(
-        w,
-        &mut bt,
-        &mut rt,
-        &mut pt,
-        &mut slab,
-        &mut input,
-        &mut answers,
-    );
+fn run_family(w: &mut Numbers, k: u32) {
+    set_family(w, k);
+    family(w);
+    if !counts_with_next(k) {
+        report(w, k);
+    }
 }
 
-// A 4, 16 branch rows, 20 record rows, 16 places.
-fn on_large(w: &mut [u32]) {
-    let mut bt = [0u32; 48];
-    let mut rt = [0u32; 60];
-    let mut pt = [0u32; 16];
-    let mut slab = [0u8; 4096];
-    let mut input = io::buffer();
-    let mut answers = io::buffer();
-    put_four(w, SIZE, 4, 16, 20, 16);
-    family(
-        w,
-        &mut bt,
-        &mut rt,
-        &mut pt,
-        &mut slab,
-        &mut input,
-        &mut answers,
-    );
+fn run_families(w: &mut Numbers) {
+    for k in 0..20u32 {
+        run_family(w, k);
+    }
 }
 
-fn set(w: &mut [u32], mode: u32, letters: u32, length: u32, lists: u32) {
-    put_four(w, MODE, mode, letters, length, lists);
-}
-
-fn say(w: &[u32], i: u32) {
+fn say(w: &Numbers, i: u32) {
     io::print_decimal(1, get(w, i) as u64);
 }
 
 // A family's line, and its counts start again.
-fn report(w: &mut [u32], name: &[u8]) {
-    io::write_all(1, name);
+fn report(w: &mut Numbers, k: u32) {
+    text::say_family(k);
     say(w, RUN);
     io::write_all(1, b" lists, ");
     say(w, BATCHES);
     io::write_all(1, b" batches, ");
     say(w, READ);
     io::write_all(1, b" snapshots read back, ");
+    end_line(w);
+}
+
+fn end_line(w: &mut Numbers) {
     say(w, DIFFER);
     io::write_all(1, b" differ\n");
-    clear_counts(w);
-}
-
-fn clear_counts(w: &mut [u32]) {
     put_four(w, RUN, 0, 0, 0, 0);
     put(w, READ, 0);
+    put(w, FAULTS, 0);
 }
 
-// All lists of up to four letters of 18.
-fn up_to_four(w: &mut [u32], mode: u32) {
-    set(w, mode, 18, 1, 18);
-    on_small(w);
-    set(w, mode, 18, 2, 324);
-    on_small(w);
-    set(w, mode, 18, 3, 5832);
-    on_small(w);
-    set(w, mode, 18, 4, 104976);
-    on_small(w);
-}
-
-fn lists_of_18(w: &mut [u32]) {
-    up_to_four(w, 0);
-    report(w, b"18 letters, length 1 to 4, a batch each: ");
-    up_to_four(w, 1);
-    report(w, b"18 letters, length 1 to 4, one batch: ");
-}
-
-fn lists_of_10(w: &mut [u32]) {
-    set(w, 0, 10, 5, 100000);
-    on_small(w);
-    report(w, b"10 letters, length 5, a batch each: ");
-    set(w, 1, 10, 5, 100000);
-    on_small(w);
-    report(w, b"10 letters, length 5, one batch: ");
-}
-
-fn lists_of_7(w: &mut [u32]) {
-    set(w, 1, 7, 6, 117649);
-    on_middle(w);
-    report(w, b"7 letters, length 6, one batch: ");
-}
-
-// Every cut of a batch, and every length of the answer area.
-fn lists_of_5(w: &mut [u32]) {
-    put(w, FIRST, 18);
-    set(w, 3, 5, 3, 98750);
-    on_small(w);
-    report(w, b"5 letters, length 3, one batch, every cut: ");
-    set(w, 5, 5, 3, 98000);
-    on_small(w);
-    report(w, b"5 letters, length 3, one batch, every answer area: ");
-    put(w, FIRST, 0);
-}
-
-fn drawn_on_little(w: &mut [u32]) {
-    set(w, 2, 1, 40, 500);
-    on_least(w);
-    report(w, b"drawn, 1 branch row: ");
-    set(w, 2, 1, 40, 1500);
-    on_small(w);
-    report(w, b"drawn, 3 branch rows: ");
-}
-
-fn drawn_on_more(w: &mut [u32]) {
-    set(w, 2, 1, 40, 1500);
-    on_middle(w);
-    report(w, b"drawn, 6 branch rows: ");
-    set(w, 2, 1, 40, 1000);
-    on_large(w);
-    report(w, b"drawn, 16 branch rows: ");
-}
-
-fn drawn_at_the_end(w: &mut [u32]) {
-    put(w, BASE, 4294967285);
-    set(w, 2, 1, 10, 1000);
-    on_middle(w);
-    report(w, b"drawn, up to the last moment: ");
-}
-
-fn all(w: &mut [u32]) {
-    lists_of_18(w);
-    lists_of_10(w);
-    lists_of_7(w);
-    lists_of_5(w);
-    drawn_on_little(w);
-    drawn_on_more(w);
-    drawn_at_the_end(w);
-}
-
-fn say_count(w: &[u32], i: u32) {
+fn say_count(w: &Numbers, i: u32) {
     io::write_all(1, b" ");
     say(w, i);
 }
 
-fn say_seen(w: &[u32]) {
-    for k in 4..15u32 {
+fn say_seen(w: &Numbers) {
+    for k in 1..15u32 {
         say_count(w, plus(SEEN, k));
+    }
+}
+
+// The faults in what a batch on a changed store leaves.
+fn in_refused(fault: u32) -> u32 {
+    if fault < 23 {
+        return 0;
+    }
+    if fault < 30 { 1 } else { 0 }
+}
+
+// All lists of two letters of 18, with a fault in what the store gave.
+fn with_fault(w: &mut Numbers, fault: u32) {
+    put(w, FAULT, fault);
+    put(w, CHANGES, in_refused(fault));
+    family(w);
+    text::say_fault(fault);
+    say(w, FAULTS);
+    io::write_all(1, b" lists, ");
+    end_line(w);
+}
+
+fn all_faults(w: &mut Numbers) {
+    for fault in 1..36u32 {
+        with_fault(w, fault);
     }
 }
 
 fn main() {
     let mut w = numbers();
     put(&mut w, SEED, 20260);
-    all(&mut w);
-    io::write_all(1, b"refusals and stops 4 to 14 came up:");
+    run_families(&mut w);
+    io::write_all(1, b"refusals and stops 1 to 14 came up:");
     say_seen(&w);
     io::write_all(1, b"\n");
+    set_family(&mut w, FAULT_FAMILY);
+    all_faults(&mut w);
 }

@@ -9,7 +9,7 @@ use Rattle.model.specs.declared.Record.{Record}
 use Rattle.model.specs.Store.{Store, pageAt, foundPage}
 use Rattle.model.specs.Wire.{Request, Answer}
 use Rattle.model.specs.Step.{step}
-use Rattle.model.proofs.Invariant.{Sound}
+use Rattle.model.specs.ByNumber.{Sound}
 use Rattle.model.proofs.Steps.{WholePage, step-answers}
 use Rattle.rows.specs.declared.Outcome.{Outcome}
 use Rattle.rows.specs.View.{foundOf, answerOf}

@@ -35,9 +35,9 @@ fn wide(x: u8) -> u64
     x as u64
 }
 
-// The number that at most seven bytes spell, most significant first.
+// The number that at most eight bytes spell, most significant first.
 pub fn get_number(s: &[u8]) -> u64
-    requires { ⌜ length (now s) ≤ 7 ⌝ }
+    requires { ⌜ length (now s) ≤ 8 ⌝ }
     ensures { λ r. ⌜ r ≡ number 0 (now (s .entry)) ⌝ }
 {
     let mut n: u64 = 0;
@@ -61,9 +61,11 @@ fn short(q: Request, unused: u64) -> Parsed
 fn paged(q: Request, unused: u64, left: usize) -> Parsed
     ensures { λ r. ⌜ r ≡ cond (eqb unused 0) (cond (leb 256 left) (Parsed.One q 263) (Parsed.Stop 11)) (Parsed.Stop 13) ⌝ }
 {
-    if unused != 0 {
+    let spare = unused != 0;
+    let cut = left < 256;
+    if spare {
         Parsed::Stop(13)
-    } else if left < 256 {
+    } else if cut {
         Parsed::Stop(11)
     } else {
         Parsed::One(q, 263)

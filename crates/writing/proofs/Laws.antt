@@ -4,7 +4,7 @@ use mathlib.Core.Logic.{_⊎_, inl, inr}
 use mathlib.Core.List.{List, [], _∷_, _++_, map, append-assoc}
 use mathlib.Core.Option.{some, none, Option·map}
 use mathlib.Core.Bool.{true, false}
-use Prim.Native.Nat.{ℕ, zero, suc, _+_, _*_, _-_, _/_, _≤_, _<_, suc-le-suc}
+use Prim.Native.Nat.{ℕ, zero, suc, _+_, _*_, _-_, _≤_, _<_, suc-le-suc}
 use native.Mathlib.Nat.{le-of-suc-le-suc, not-suc-le-zero, le-refl}
 use native.Mathlib.Decide.{decLt, ℕ-discrete}
 use native.Mathlib.Omega.{arith}
@@ -13,21 +13,23 @@ use lib.Seq.{getD-take, length-take-le, getD-set-same, getD-set-other, ext-getD,
 use borrow.Author.Tests.{lt-ltb, le-ltb}
 use Rattle.model.specs.declared.Head.{Head}
 use Rattle.model.specs.declared.Record.{Record}
-use Rattle.model.specs.Store.{records, zero-record, withPage}
+use Rattle.model.specs.Store.{Store, records, zero-record, withPage}
 use Rattle.model.specs.Lookup.{latest}
 use Rattle.model.specs.Soundness.{precedes}
-use Rattle.model.specs.Step.{headWith, firstFree, before, shifted, putIn, inserted, written, doWrite}
+use Rattle.model.specs.Step.{headWith, firstFree, before, shifted, putIn, inserted, written, doWrite, step}
+use Rattle.model.specs.Wire.{write}
 use Rattle.model.proofs.Base.{case}
 use Rattle.model.proofs.Latest.{precedes→, →precedes}
 use Rattle.model.proofs.Places.{getD-map-lt, shifted-low, shifted-high, firstFree→}
-use Rattle.rows.specs.Rows.{recordRowsOf}
-use Rattle.rows.proofs.Laws.{record-count}
+use Rattle.rows.specs.Rows.{recordRowsOf, RecordsLaid}
+use Rattle.rows.proofs.Laws.{branch-kind, record-kind}
+use Rattle.rows.proofs.Relaid.{laid-own, laid-rows}
+use Rattle.rows.proofs.View.{within-own, leaves-all, carried}
 use Rattle.rows.specs.declared.Outcome.{Outcome}
-use Rattle.rows.specs.View.{storeOf, steppedOf}
-use Rattle.model.proofs.ByNumber.{Ascend, entry}
+use Rattle.rows.specs.View.{Tables, withRecords, withPlaces, withSlab, storeOf, recordGiven, Leaves, Carried, refusedWith, acceptedWith}
+use Rattle.model.specs.ByNumber.{Ascend, entry}
 use Rattle.lookup.proofs.Laws.{Bracket}
 use Rattle.lookup.proofs.Walk.{Span, span-start, latest-here, latest-low, latest-other, latest-end}
-use Rattle.rows.specs.View.{refusedWith, acceptedWith}
 use Rattle.writing.specs.Free.{freeOf}
 use Rattle.writing.specs.declared.Free.{Free}
 use Rattle.writing.specs.declared.Free.the-variants.{At}
@@ -171,61 +173,64 @@ module _ (rows : List Record) (n a t c : ℕ) (room : n ≤ length rows) (up : A
         long = length-take-le n rows room
 
 -- the write of a new record
-module _ (head : Head) (rt pt slab : List ℕ) (a : ℕ) (page : List ℕ) (r : Outcome) where
-  pub write-full : r ≡ refusedWith head 5 → length rt / 3 ≤ head .records → (bt : List ℕ) → steppedOf r bt rt pt slab ≡ written (storeOf head bt rt pt slab) a page none
-  write-full q h bt =
-      let l : length (recordRowsOf rt) ≤ head .records = omega (arith, record-count rt) in
-      rw (q, le-ltb _ _ l)
+module _ (head : Head) (t : Tables) (a : ℕ) (page : List ℕ) (r : Outcome) where
+  abbrev S : Store
+  S = storeOf head t
 
-  module _ (room : head .records < length rt / 3) where
-    has-room : head .records < length (recordRowsOf rt)
-    has-room = omega (arith, record-count rt)
+  pub write-full : r ≡ refusedWith head 5 → length (recordRowsOf (t .records)) ≤ head .records → Leaves (written S a page none) none t r t
+  write-full q h = leaves-all (rw (q, le-ltb _ _ h)) (rw q) (within-own t)
 
-    pub write-none : r ≡ refusedWith head 6 → firstFree pt ≡ none → (bt : List ℕ) → steppedOf r bt rt pt slab ≡ written (storeOf head bt rt pt slab) a page none
-    write-none q e bt = rw (q, lt-ltb _ _ has-room, e)
+  module _ (room : head .records < length (recordRowsOf (t .records))) where
+    pub write-none : r ≡ refusedWith head 6 → firstFree (t .places) ≡ none → Leaves (written S a page none) none t r t
+    write-none q e = leaves-all (rw (q, lt-ltb _ _ room, e)) (rw q) (within-own t)
 
     pub write-done : (u v w : List ℕ) (p at : ℕ) → r ≡ acceptedWith (headWith head (head .branches) (head .records + 1) (head .now) (head .floor)) (head .now)
-        → firstFree pt ≡ some p → Slot (take (head .records) (recordRowsOf rt)) a (head .now) at
-        → recordRowsOf u ≡ putIn at (record { address = a; moment = head .now; place = p }) (take (head .records) (recordRowsOf rt)) ++ drop (head .records + 1) (recordRowsOf rt)
-        → v ≡ set (map (shifted at) pt) p (at + 1)
-        → w ≡ withPage slab p page
-        → (bt : List ℕ) → steppedOf r bt u v w ≡ written (storeOf head bt rt pt slab) a page none
+        → firstFree (t .places) ≡ some p → Slot (take (head .records) (recordRowsOf (t .records))) a (head .now) at
+        → RecordsLaid (t .records) (putIn at (record { address = a; moment = head .now; place = p }) (take (head .records) (recordRowsOf (t .records))) ++ drop (head .records + 1) (recordRowsOf (t .records))) u
+        → length u ≡ length (t .records)
+        → v ≡ set (map (shifted at) (t .places)) p (at + 1)
+        → w ≡ withPage (t .slab) p page
+        → Leaves (written S a page none) none t r (withSlab w (withPlaces v (withRecords u t)))
     unfolding inserted records
-    write-done u v w p at q f s eu ev ew bt =
+    write-done u v w p at q f s eu lu ev ew =
         let z : at + 1 ≡ suc at = omega arith in
-        let x : before (record { address = a; moment = head .now; place = p }) (take (head .records) (recordRowsOf rt)) ≡ at = s .row p in
-        rw (q, lt-ltb _ _ has-room, f, x, eu, ev, ew, z)
+        let x : before (record { address = a; moment = head .now; place = p }) (take (head .records) (recordRowsOf (t .records))) ≡ at = s .row p in
+        let eu′ : recordRowsOf u ≡ putIn at (record { address = a; moment = head .now; place = p }) (take (head .records) (recordRowsOf (t .records))) ++ drop (head .records + 1) (recordRowsOf (t .records)) =
+        laid-rows record-kind eu lu in
+        leaves-all (rw (q, lt-ltb _ _ room, f, x, eu′, ev, ew, z)) (rw q) (record { branches = laid-own branch-kind (t .branches); records = rw eu′ eu })
 
   -- and the whole write
-  pub write-refused : r ≡ refusedWith head 4 → head .size ≤ a → (bt : List ℕ) → steppedOf r bt rt pt slab ≡ doWrite (storeOf head bt rt pt slab) a page
-  unfolding doWrite
-  write-refused q h bt = rw (q, le-ltb _ _ h)
+  pub write-refused : r ≡ refusedWith head 4 → head .size ≤ a → Carried head t (write a page) r t
+  unfolding step doWrite recordGiven
+  write-refused q h = carried head t (write a page) (rw (q, le-ltb _ _ h)) (rw q) (within-own t)
 
   pub write-over : (w : List ℕ) (x : Record) → r ≡ acceptedWith head (head .now) → a < head .size
-      → latest (take (head .records) (recordRowsOf rt)) a (head .now) (head .now) ≡ some x → w ≡ withPage slab (x .place) page
-      → (bt : List ℕ) → steppedOf r bt rt pt w ≡ doWrite (storeOf head bt rt pt slab) a page
-  unfolding doWrite records
-  write-over w x q h e d bt = rw (q, lt-ltb _ _ h, e, d)
+      → latest (take (head .records) (recordRowsOf (t .records))) a (head .now) (head .now) ≡ some x → w ≡ withPage (t .slab) (x .place) page
+      → Carried head t (write a page) r (withSlab w t)
+  unfolding step doWrite recordGiven records
+  write-over w x q h e d =
+      carried head t (write a page) (rw (q, lt-ltb _ _ h, e, d)) (rw q) (record { branches = laid-own branch-kind (t .branches); records = laid-own record-kind (t .records) })
 
--- where no record stands, it is the write of a new one
-pub write-else : (head : Head) (rt pt slab : List ℕ) (a : ℕ) (page : List ℕ) → a < head .size → latest (take (head .records) (recordRowsOf rt)) a (head .now) (head .now) ≡ none
-    → (bt : List ℕ) → written (storeOf head bt rt pt slab) a page none ≡ doWrite (storeOf head bt rt pt slab) a page
-unfolding doWrite records
-write-else head rt pt slab a page h e bt = rw (lt-ltb _ _ h, e)
+  -- where no record stands, it is the write of a new one
+  pub write-else : {u : Tables} → a < head .size → latest (take (head .records) (recordRowsOf (t .records))) a (head .now) (head .now) ≡ none
+      → Leaves (written S a page none) none t r u → Carried head t (write a page) r u
+  unfolding step doWrite recordGiven records
+  write-else h e l = record { leaves = rw (lt-ltb _ _ h, e) l }
 
 -- a place is free for a new record
 pub record Taking (head : Head) (rt pt : List ℕ) (at p : ℕ) : Type 0 where
   pub free : firstFree pt ≡ some p
   pub inside : p < length pt
   pub row : at ≤ head .records
-  pub more : head .records < length rt / 3
+  pub more : head .records < length (recordRowsOf rt)
 
-pub taking-of : (head : Head) (rt pt : List ℕ) (a at p : ℕ) (f : Free) → f ≡ At p → freeOf f ≡ firstFree pt → Slot (take (head .records) (recordRowsOf rt)) a (head .now) at → head .records < length rt / 3 → Taking head rt pt at p
+pub taking-of : (head : Head) (rt pt : List ℕ) (a at p : ℕ) (f : Free) → f ≡ At p → freeOf f ≡ firstFree pt → Slot (take (head .records) (recordRowsOf rt)) a (head .now) at
+    → head .records < length (recordRowsOf rt) → Taking head rt pt at p
 taking-of head rt pt a at p f e d s l =
     let g : firstFree pt ≡ some p = sym d ∙ ap freeOf e in
     record {
       free = g;
       inside = firstFree→ pt p g .0;
-      row = omega (arith, s .inside, length-take-le (head .records) (recordRowsOf rt) (omega (arith, record-count rt)));
+      row = omega (arith, s .inside, length-take-le (head .records) (recordRowsOf rt) (omega arith));
       more = l;
     }

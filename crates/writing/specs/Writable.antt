@@ -1,20 +1,20 @@
 -- What a write asks of the tables; a sound store has it.
 use mathlib.Core.Path.{_≡_}
 use mathlib.Core.List.{List}
-use Prim.Native.Nat.{ℕ, _*_, _/_, _≤_, _<_}
+use Prim.Native.Nat.{ℕ, _*_, _≤_, _<_}
 use lib.ListN.{length, getD, take}
 use Rattle.model.specs.declared.Head.{Head}
 use Rattle.model.specs.declared.Record.{Record}
 use Rattle.model.specs.Store.{_∈_}
-use Rattle.model.proofs.Latest.{Asc}
+use Rattle.model.specs.ByNumber.{Asc}
 use Rattle.model.specs.Step.{before}
-use Rattle.rows.specs.Rows.{recordRowsOf}
+use Rattle.rows.specs.Rows.{recordRowsOf, RecordsIn}
 
--- lengths, and what stands in the place rows
+-- the counted rows are there, their count can grow by 1, a place is a number of 32 bits, and no place row names a record that is not counted
 pub record Room (head : Head) (rt pt slab : List ℕ) : Type 0 where
-  pub counted : head .records ≤ length rt / 3
-  pub few : length rt / 3 ≤ 65536
-  pub places : length pt ≤ 65536
+  pub counted : RecordsIn (head .records) rt
+  pub few : head .records < 4294967295
+  pub places : length pt ≤ 4294967296
   pub pages : length slab ≡ 256 * length pt
   pub named : (k : ℕ) → getD pt k 0 ≤ head .records
 

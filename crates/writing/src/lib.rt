@@ -4,16 +4,17 @@ use model::Record;
 use rows::Found;
 use rows::Outcome;
 ghost use mathlib.Core.Path.{_≡_};
-ghost use mathlib.Core.List.{List, map, _++_};
+ghost use mathlib.Core.List.{map, _++_};
 ghost use mathlib.Core.Option.{none};
-ghost use Prim.Native.Nat.{ℕ, _+_, _*_, _/_, _≤_, _<_};
+ghost use Prim.Native.Nat.{ℕ, suc, _+_, _*_, _≤_, _<_};
 ghost use lib.ListN.{length, getD, take, drop};
 ghost use Rattle.model.specs.Store.{withPage};
 ghost use Rattle.model.specs.Lookup.{latest};
-ghost use Rattle.model.proofs.Latest.{Asc};
-ghost use Rattle.model.specs.Step.{firstFree, shifted, putIn, written, doWrite};
-ghost use Rattle.rows.specs.Rows.{recordRowsOf};
-ghost use Rattle.rows.specs.View.{storeOf, foundOf, steppedOf};
+ghost use Rattle.model.specs.ByNumber.{Asc};
+ghost use Rattle.model.specs.Wire.{write};
+ghost use Rattle.model.specs.Step.{firstFree, shifted, putIn, written};
+ghost use Rattle.rows.specs.Rows.{recordRowsOf, RecordsLaid, RecordsIn};
+ghost use Rattle.rows.specs.View.{Tables, withRecords, withPlaces, withSlab, storeOf, foundOf, Leaves, Carried};
 ghost use Rattle.lookup.specs.Order.{upTo};
 ghost use Rattle.writing.specs.Free.{freeOf};
 ghost use Rattle.writing.specs.Writable.{Room, Writable, Slot};
@@ -50,7 +51,7 @@ fn moved(at: u32, k: u32) -> u32
 
 // All place rows after a record row was put in at a row.
 fn shift_places(pt: &mut [u32], at: u32)
-    requires { ⌜ ((k : ℕ) → getD (now pt) k 0 ≤ 65536) ⌝ }
+    requires { ⌜ ((k : ℕ) → getD (now pt) k 0 < 4294967295) ⌝ }
     ensures { λ _. ⌜ now (pt .exit) ≡ map (shifted at) (now (pt .entry)) ⌝ }
 {
     let mut i: usize = 0;
@@ -64,8 +65,8 @@ fn shift_places(pt: &mut [u32], at: u32)
 
 // A record is put in at a row of the first n: the rows from there on move by one.
 fn insert_row(rt: &mut [u32], n: usize, at: usize, r: Record)
-    requires { ⌜ (at ≤ n) × (n < 65536) × (n * 3 + 3 ≤ length (now rt)) ⌝ }
-    ensures { λ _. ⌜ recordRowsOf (now (rt .exit)) ≡ putIn at r (take n (recordRowsOf (now (rt .entry)))) ++ drop (n + 1) (recordRowsOf (now (rt .entry))) ⌝ }
+    requires { ⌜ (at ≤ n) × RecordsIn (suc n) (now rt) ⌝ }
+    ensures { λ _. ⌜ RecordsLaid (now (rt .entry)) (putIn at r (take n (recordRowsOf (now (rt .entry)))) ++ drop (n + 1) (recordRowsOf (now (rt .entry)))) (now (rt .exit)) ⌝ }
 {
     let mut k = n;
     while at < k {
@@ -79,7 +80,7 @@ fn insert_row(rt: &mut [u32], n: usize, at: usize, r: Record)
 
 // A page is put at a place of the slab.
 pub fn put_page(slab: &mut [u8], p: usize, page: &[u8])
-    requires { ⌜ (length (now page) ≡ 256) × (p < 65536) × (256 * p + 256 ≤ length (now slab)) ⌝ }
+    requires { ⌜ (length (now page) ≡ 256) × (256 * p + 256 ≤ length (now slab)) ⌝ }
     ensures { λ _. ⌜ now (slab .exit) ≡ withPage (now (slab .entry)) p (now (page .entry)) ⌝ }
 {
     let base = 256 * p;
@@ -92,7 +93,7 @@ pub fn put_page(slab: &mut [u8], p: usize, page: &[u8])
 
 // The record that stands at (a, t) already, of n records of which c are up to (a, t); where there is none, c is the row for a new one.
 fn standing(rt: &[u32], n: usize, a: u32, t: u32, c: usize) -> Found
-    requires { ⌜ (n * 3 ≤ length (now rt)) × (c ≡ upTo a t (take n (recordRowsOf (now rt)))) ⌝ }
+    requires { ⌜ RecordsIn n (now rt) × (c ≡ upTo a t (take n (recordRowsOf (now rt)))) ⌝ }
     requires { ⌜ Asc (take n (recordRowsOf (now rt))) ⌝ }
     ensures { λ r. ⌜ foundOf r ≡ latest (take n (recordRowsOf (now (rt .entry)))) a t t ⌝ }
     ensures { λ r. ⌜ (foundOf r ≡ none → Slot (take n (recordRowsOf (now (rt .entry)))) a t c) ⌝ }
@@ -120,11 +121,11 @@ fn write_new(
 ) -> Outcome
     requires { ⌜ Room head (now rt) (now pt) (now slab) ⌝ }
     requires { ⌜ (length (now page) ≡ 256) × Slot (take (head .records) (recordRowsOf (now rt))) a (head .now) at ⌝ }
-    ensures { λ r. ⌜ ((bt : List ℕ) → steppedOf r bt (now (rt .exit)) (now (pt .exit)) (now (slab .exit)) ≡ written (storeOf head bt (now (rt .entry)) (now (pt .entry)) (now (slab .entry))) a (now (page .entry)) none) ⌝ }
+    ensures { λ r. ⌜ ((t : Tables) → Leaves (written (storeOf head (withSlab (now (slab .entry)) (withPlaces (now (pt .entry)) (withRecords (now (rt .entry)) t)))) a (now (page .entry)) none) none (withSlab (now (slab .entry)) (withPlaces (now (pt .entry)) (withRecords (now (rt .entry)) t))) r (withSlab (now (slab .exit)) (withPlaces (now (pt .exit)) (withRecords (now (rt .exit)) t)))) ⌝ }
 {
     let present = head.now;
     let n = head.records as usize;
-    if rt.len() / 3 <= n {
+    if rows::record_rows(rt) <= n {
         return rows::refused(head, 5);
     }
     let free = first_free(pt);
@@ -162,7 +163,7 @@ pub fn write(
 ) -> Outcome
     requires { ⌜ Writable head (now rt) (now pt) (now slab) ⌝ }
     requires { ⌜ length (now page) ≡ 256 ⌝ }
-    ensures { λ r. ⌜ ((bt : List ℕ) → steppedOf r bt (now (rt .exit)) (now (pt .exit)) (now (slab .exit)) ≡ doWrite (storeOf head bt (now (rt .entry)) (now (pt .entry)) (now (slab .entry))) a (now (page .entry))) ⌝ }
+    ensures { λ r. ⌜ ((t : Tables) → Carried head (withSlab (now (slab .entry)) (withPlaces (now (pt .entry)) (withRecords (now (rt .entry)) t))) (write a (now (page .entry))) r (withSlab (now (slab .exit)) (withPlaces (now (pt .exit)) (withRecords (now (rt .exit)) t)))) ⌝ }
 {
     let present = head.now;
     if head.size <= a {
@@ -175,12 +176,7 @@ pub fn write(
         Found::Row(q) => {
             let own = q.place as usize;
             put_page(slab, own, page);
-            Outcome {
-                head,
-                refusal: 0,
-                value: present,
-                found: Found::Nothing,
-            }
+            rows::accepted(head, present)
         }
         Found::Nothing => write_new(head, rt, pt, slab, a, page, c),
     }

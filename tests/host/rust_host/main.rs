@@ -15,7 +15,7 @@ extern "C" {
         records_len: usize,
         places: *mut u8,
         places_len: usize,
-        slab: *mut u8,
+        slab: *const u8,
         slab_len: usize,
     ) -> u32;
     fn kizmoolet_batch(

@@ -3,15 +3,49 @@ use Prim.Native.Nat.{_≤_}
 use native.Mathlib.Omega.{arith}
 use lib.ListN.{length}
 use Rattle.model.specs.Store.{open-end}
+use Rattle.rows.specs.View.{Tables, tables}
 use Rattle.soundness.specs.Check.{checkOf}
-use Rattle.soundness.proofs.Checked.{checked-sound, checked-whole}
+use Rattle.soundness.proofs.Checked.{checked-sound}
 use Rattle.batch.proofs.Lent.{refused-leaves, batch-checked, batch-unchecked}
 use borrow.Author.Needs.{needs}
 use Rattle.batch.proofs.batch.Statement.{statement}
 use Rattle.batch.proofs.batch.Tie as tie
 
+abbrev run-from-pt : tie.After-pt → tie.After-run
+run-from-pt c = c .before .before .before .before .before
+
+abbrev run-from-slice-known10 : tie.After-slice-known10 → tie.After-run
+run-from-slice-known10 c = run-from-pt (c .before .before .before .before .before)
+
+abbrev slice-known2-from-check-arg : tie.After-check-arg → tie.After-slice-known2
+slice-known2-from-check-arg c = c .before .before .before .before .before
+
+abbrev start-from-else1 : tie.Else1 → tie.Start
+start-from-else1 c = (slice-known2-from-check-arg (c .before .before .before .before .before)) .before .before
+
+abbrev check-arg-from-check-arg2 : tie.After-check-arg2 → tie.After-check-arg
+check-arg-from-check-arg2 c = c .before
+
+abbrev start-from-report : tie.After-report → tie.Start
+start-from-report c = (slice-known2-from-check-arg (check-arg-from-check-arg2 (c .before .before .before .before .before))) .before .before
+
+abbrev else1-from-run-arg5 : tie.After-run-arg5 → tie.Else1
+else1-from-run-arg5 c = c .before .before .before .before .before
+
+abbrev else1-from-slice-known10 : tie.After-slice-known10 → tie.Else1
+else1-from-slice-known10 c = else1-from-run-arg5 ((run-from-slice-known10 c) .before)
+
+abbrev start-from-run-arg5 : tie.After-run-arg5 → tie.Start
+start-from-run-arg5 c = start-from-else1 (else1-from-run-arg5 c)
+
+abbrev start-from-slice-known10 : tie.After-slice-known10 → tie.Start
+start-from-slice-known10 c = start-from-else1 (else1-from-slice-known10 c)
+
+abbrev lent : tie.Start → Tables
+lent s = tables (s .args .bt .now) (s .args .rt .now) (s .args .pt .now) (s .args .slab .now)
+
 -- the tables passed
-checked : (c : tie.Else1) → checkOf (c .before .before .before .before .before .before .before .before .before .before .before .before .args .head) (c .before .before .before .before .before .before .before .before .before .before .before .before .args .bt .now) (c .before .before .before .before .before .before .before .before .before .before .before .before .args .rt .now) (c .before .before .before .before .before .before .before .before .before .before .before .before .args .pt .now) (c .before .before .before .before .before .before .before .before .before .before .before .before .args .slab .now) ≡ 0
+checked : (c : tie.Else1) → checkOf ((start-from-else1 c) .args .head) (lent (start-from-else1 c)) ≡ 0
 checked c = sym (c .before .check .ensures) ∙ c .if1 .left
 
 check-requires : tie.Need-check-requires
@@ -34,18 +68,15 @@ same-length-4 c = search needs
 
 returns : tie.Need-returns
 returns c =
-    let s = c .before .before .before .before .before .before .before .before .before .before .before .before .before .args in
-    rw (c .report .ensures, batch-unchecked (s .head) (s .bt .now) (s .rt .now) (s .pt .now) (s .slab .now) (s .input .now) (length (s .answers .now)) (c .before .before .check .result) (c .before .before .check .ensures) (c .before .if1 .taken))
-    (refused-leaves (s .head) (s .bt .now) (s .rt .now) (s .pt .now) (s .slab .now) (s .answers .now) (c .before .before .check .result))
+    let s = start-from-report c in
+    rw (c .report .ensures, batch-unchecked (s .args .head) (lent s) (s .args .input .now) (length (s .args .answers .now)) (c .before .before .check .result) (c .before .before .check .ensures) (c .before .if1 .taken))
+    (refused-leaves (s .args .head) (lent s) (s .args .answers .now) (c .before .before .check .result))
 
 run-requires : tie.Need-run-requires
 run-requires c κs =
-    let s = c .before .before .before .before .before .before .before .before .before .before .before .before .before .before .before .before .before in
-    let e : checkOf (s .args .head) (s .args .bt .now) (s .args .rt .now) (s .args .pt .now) (s .args .slab .now) ≡ 0 = checked (c .before .before .before .before .before) in
-    let h : s .args .head .now ≤ open-end = omega (arith, s .good) in (
-      checked-sound (s .args .head) (s .args .bt .now) (s .args .rt .now) (s .args .pt .now) (s .args .slab .now) h e,
-      checked-whole (s .args .head) (s .args .bt .now) (s .args .rt .now) (s .args .pt .now) (s .args .slab .now) e,
-    )
+    let s = start-from-run-arg5 c in
+    let h : s .args .head .now ≤ open-end = omega (arith, s .good) in
+    checked-sound (s .args .head) (lent s) h (checked (c .before .before .before .before .before))
 
 same-length-5 : tie.Need-same-length-5
 same-length-5 c = search needs
@@ -64,8 +95,8 @@ same-length-9 c = search needs
 
 returns-2 : tie.Need-returns-2
 returns-2 c =
-    let s = c .before .before .before .before .before .before .before .before .before .before .before .before .before .before .before .before .before .before .before .before .before .before .before .before .before .before .before .before .args in
-    rw (batch-checked (s .head) (s .bt .now) (s .rt .now) (s .pt .now) (s .slab .now) (s .input .now) (length (s .answers .now)) (checked (c .before .before .before .before .before .before .before .before .before .before .before .before .before .before .before .before))) (c .before .before .before .before .before .before .before .before .before .before .run .ensures)
+    let s = start-from-slice-known10 c in
+    rw (batch-checked (s .args .head) (lent s) (s .args .input .now) (length (s .args .answers .now)) (checked (else1-from-slice-known10 c))) ((run-from-slice-known10 c) .run .ensures)
 
 pub batch-spec : {M : Type 1} → statement M
 batch-spec =

@@ -5,9 +5,10 @@ use native.Mathlib.Omega.{arith}
 use borrow.Author.Needs.{needs}
 use lib.ListN.{length, take, drop, length-drop}
 use Rattle.model.specs.Store.{Store}
-use Rattle.model.specs.Wire.{Request, parse, one, answerBytes}
-use Rattle.model.specs.Step.{Stepped, step}
-use Rattle.rows.specs.View.{storeOf, foundOf, answerOf}
+use Rattle.model.specs.Wire.{Request, parse, one, Answer, answerBytes}
+use Rattle.model.specs.Step.{step}
+use Rattle.rows.specs.View.{Tables, tables, storeOf, laid, foundOf, answerOf}
+use Rattle.rows.proofs.View.{SameLengths, laid-self, carried-store, carried-answer, carried-laid}
 use Rattle.wire.specs.Answers.{Lies}
 use Rattle.wire.proofs.Sending.{outcome-sends}
 use Rattle.wire.specs.Requests.{requestOf}
@@ -22,50 +23,150 @@ Inv-loop bt₀ rt₀ pt₀ slab₀ input answers₀ head₀ answered₀ at₀ ou
     × (length rt ≡ length rt₀)
     × (length pt ≡ length pt₀)
     × (length slab ≡ length slab₀)
-    × Left (storeOf head₀ bt₀ rt₀ pt₀ slab₀) input answers₀ (storeOf head bt rt pt slab) answers answered at out
+    × Left (storeOf head₀ (tables bt₀ rt₀ pt₀ slab₀)) input answers₀ (storeOf head (tables bt rt pt slab)) answers answered at out
+    × (tables bt rt pt slab ≡ laid (storeOf head (tables bt rt pt slab)) (tables bt₀ rt₀ pt₀ slab₀))
 
 abbrev μ-loop : tie.MeasureT-loop
 μ-loop bt₀ rt₀ pt₀ slab₀ input answers₀ head₀ answered₀ at₀ out₀ bt rt pt slab answers head answered at out = length input - at
 
+abbrev start-from-slice-known : tie.After-slice-known Inv-loop μ-loop → tie.Start Inv-loop μ-loop
+start-from-slice-known c = c .before
+
+abbrev start-from-slice-known5 : tie.After-slice-known5 Inv-loop μ-loop → tie.Start Inv-loop μ-loop
+start-from-slice-known5 c = start-from-slice-known (c .before .before .before .before .before)
+
+abbrev p-from-serve-arg : tie.After-serve-arg Inv-loop μ-loop → tie.After-p Inv-loop μ-loop
+p-from-serve-arg c = c .before .before .before
+
+abbrev p-from-serve-arg4 : tie.After-serve-arg4 Inv-loop μ-loop → tie.After-p Inv-loop μ-loop
+p-from-serve-arg4 c = p-from-serve-arg (c .before .before .before)
+
+abbrev answer-size-from-put-answer-arg2 : tie.After-put-answer-arg2 Inv-loop μ-loop → tie.After-answer-size Inv-loop μ-loop
+answer-size-from-put-answer-arg2 c = c .before .before .before
+
+abbrev answer-size-from-slice-known10 : tie.After-slice-known10 Inv-loop μ-loop → tie.After-answer-size Inv-loop μ-loop
+answer-size-from-slice-known10 c = answer-size-from-put-answer-arg2 (c .before .before .before)
+
+abbrev p-from-serve : tie.After-serve Inv-loop μ-loop → tie.After-p Inv-loop μ-loop
+p-from-serve c = p-from-serve-arg4 (c .before)
+
+abbrev loop-from-p : tie.After-p Inv-loop μ-loop → tie.At-loop Inv-loop μ-loop
+loop-from-p c = c .before .before .before .before
+
+abbrev loop-from-report2 : tie.After-report2 Inv-loop μ-loop → tie.At-loop Inv-loop μ-loop
+loop-from-report2 c = loop-from-p (c .before .before .before)
+
+abbrev serve-from-pt : tie.After-pt Inv-loop μ-loop → tie.After-serve Inv-loop μ-loop
+serve-from-pt c = c .before .before .before .before .before
+
+abbrev serve-from-answer-size : tie.After-answer-size Inv-loop μ-loop → tie.After-serve Inv-loop μ-loop
+serve-from-answer-size c = serve-from-pt (c .before .before .before .before .before)
+
+abbrev loop-from-serve-arg4 : tie.After-serve-arg4 Inv-loop μ-loop → tie.At-loop Inv-loop μ-loop
+loop-from-serve-arg4 c = loop-from-p (p-from-serve-arg4 c)
+
+abbrev start-from-p : tie.After-p Inv-loop μ-loop → tie.Start Inv-loop μ-loop
+start-from-p c = start-from-slice-known5 ((loop-from-p c) .before)
+
+abbrev loop-from-serve : tie.After-serve Inv-loop μ-loop → tie.At-loop Inv-loop μ-loop
+loop-from-serve c = loop-from-p (p-from-serve c)
+
+abbrev slice-known5-from-loop : tie.At-loop Inv-loop μ-loop → tie.After-slice-known5 Inv-loop μ-loop
+slice-known5-from-loop c = c .before
+
+abbrev start-from-report : tie.After-report Inv-loop μ-loop → tie.Start Inv-loop μ-loop
+start-from-report c = start-from-slice-known5 (slice-known5-from-loop (c .before .before .before .before .before))
+
+abbrev serve-from-report3 : tie.After-report3 Inv-loop μ-loop → tie.After-serve Inv-loop μ-loop
+serve-from-report3 c = serve-from-answer-size (c .before .before)
+
+abbrev serve-from-put-answer-arg2 : tie.After-put-answer-arg2 Inv-loop μ-loop → tie.After-serve Inv-loop μ-loop
+serve-from-put-answer-arg2 c = serve-from-answer-size (answer-size-from-put-answer-arg2 c)
+
+abbrev serve-from-slice-known10 : tie.After-slice-known10 Inv-loop μ-loop → tie.After-serve Inv-loop μ-loop
+serve-from-slice-known10 c = serve-from-answer-size (answer-size-from-slice-known10 c)
+
+abbrev start-from-serve : tie.After-serve Inv-loop μ-loop → tie.Start Inv-loop μ-loop
+start-from-serve c = start-from-slice-known5 (slice-known5-from-loop (loop-from-serve c))
+
+abbrev p-from-slice-known10 : tie.After-slice-known10 Inv-loop μ-loop → tie.After-p Inv-loop μ-loop
+p-from-slice-known10 c = p-from-serve (serve-from-slice-known10 c)
+
+abbrev loop-from-report3 : tie.After-report3 Inv-loop μ-loop → tie.At-loop Inv-loop μ-loop
+loop-from-report3 c = loop-from-serve (serve-from-report3 c)
+
+abbrev loop-from-put-answer-arg2 : tie.After-put-answer-arg2 Inv-loop μ-loop → tie.At-loop Inv-loop μ-loop
+loop-from-put-answer-arg2 c = loop-from-serve (serve-from-put-answer-arg2 c)
+
+abbrev loop-from-slice-known10 : tie.After-slice-known10 Inv-loop μ-loop → tie.At-loop Inv-loop μ-loop
+loop-from-slice-known10 c = loop-from-p (p-from-slice-known10 c)
+
+abbrev start-from-slice-known10 : tie.After-slice-known10 Inv-loop μ-loop → tie.Start Inv-loop μ-loop
+start-from-slice-known10 c = start-from-slice-known5 (slice-known5-from-loop (loop-from-slice-known10 c))
+
+-- what is lent when the call begins
+abbrev at-start : tie.Start Inv-loop μ-loop → Tables
+at-start s = tables (s .args .bt .now) (s .args .rt .now) (s .args .pt .now) (s .args .slab .now)
+
+abbrev start-tables : tie.After-serve Inv-loop μ-loop → Tables
+start-tables c = at-start (start-from-serve c)
+
 -- the request that was read
 read : (c : tie.After-p Inv-loop μ-loop)
-    → parse (drop (c .before .before .before .before .loop .at) (c .before .before .before .before .before .before .before .before .before .before .before .args .input .now))
-    ≡ one (requestOf (take (length (c .before .before .before .before .before .before .before .before .before .before .before .args .input .now) - c .before .before .before .before .loop .at) (drop (c .before .before .before .before .loop .at) (c .before .before .before .before .before .before .before .before .before .before .before .args .input .now))) (c .p .given .0 .0)) (c .p .given .0 .1 .0)
-read c = read-one (c .before .before .before .before .before .before .before .before .before .before .before .args .input .now) (c .before .before .before .before .loop .at) (c .before .before .read-request .result) (c .before .before .read-request .ensures) _ _ (c .p .given .1)
+    → parse (drop (c .before .before .before .before .loop .at) ((start-from-p c) .args .input .now))
+    ≡ one (requestOf (take (length ((start-from-p c) .args .input .now) - c .before .before .before .before .loop .at) (drop (c .before .before .before .before .loop .at) ((start-from-p c) .args .input .now))) (c .p .given .0 .0)) (c .p .given .0 .1 .0)
+read c = read-one ((start-from-p c) .args .input .now) (c .before .before .before .before .loop .at) (c .before .before .read-request .result) (c .before .before .read-request .ensures) _ _ (c .p .given .1)
 
 -- the input from the request on, the request, and the store before it
 abbrev part-of : tie.After-serve Inv-loop μ-loop → List ℕ
-part-of c = take (length (c .before .before .before .before .before .before .before .before .before .before .before .before .before .before .before .before .before .before .args .input .now) - c .before .before .before .before .before .before .before .before .before .before .before .loop .at) (drop (c .before .before .before .before .before .before .before .before .before .before .before .loop .at) (c .before .before .before .before .before .before .before .before .before .before .before .before .before .before .before .before .before .before .args .input .now))
+part-of c = take (length ((start-from-serve c) .args .input .now) - (loop-from-serve c) .loop .at) (drop ((loop-from-serve c) .loop .at) ((start-from-serve c) .args .input .now))
 
 abbrev asked : tie.After-serve Inv-loop μ-loop → Request
-asked c = requestOf (part-of c) (c .before .before .before .before .before .before .before .p .given .0 .0)
+asked c = requestOf (part-of c) ((p-from-serve c) .p .given .0 .0)
+
+-- what is lent before it, and after it
+abbrev lent : tie.After-serve Inv-loop μ-loop → Tables
+lent c =
+    let l = (loop-from-serve c) .loop in
+    tables (l .bt) (l .rt) (l .pt) (l .slab)
 
 abbrev store-of : tie.After-serve Inv-loop μ-loop → Store
-store-of c = storeOf (c .before .before .before .before .before .before .before .before .before .before .before .loop .head) (c .before .before .before .before .before .before .before .before .before .before .before .loop .bt) (c .before .before .before .before .before .before .before .before .before .before .before .loop .rt) (c .before .before .before .before .before .before .before .before .before .before .before .loop .pt) (c .before .before .before .before .before .before .before .before .before .before .before .loop .slab)
+store-of c = storeOf ((loop-from-serve c) .loop .head) (lent c)
 
--- the store after it
-abbrev store-after : tie.After-serve Inv-loop μ-loop → Store
-store-after c = storeOf (c .serve .result .head) (c .serve .last .1 .0) (c .serve .last .1 .1 .0) (c .serve .last .1 .1 .1 .0) (c .serve .last .1 .1 .1 .1 .0)
+abbrev left : tie.After-serve Inv-loop μ-loop → Tables
+left c = tables (c .serve .last .1 .0) (c .serve .last .1 .1 .0) (c .serve .last .1 .1 .1 .0) (c .serve .last .1 .1 .1 .1 .0)
 
-turned : (c : tie.After-serve Inv-loop μ-loop)
-    → _≡_ {A = Stepped} (record { store = store-after c; answer = answerOf (c .serve .result) (c .serve .last .1 .1 .1 .1 .0) }) (step (store-of c) (asked c))
-turned c = c .serve .ensures
+lengths : (c : tie.After-serve Inv-loop μ-loop) → SameLengths (lent c) (left c)
+lengths c = record { branches = c .serve .kept .1 .0; records = c .serve .kept .1 .1 .0 }
+
+stored : (c : tie.After-serve Inv-loop μ-loop) → storeOf (c .serve .result .head) (left c) ≡ step (store-of c) (asked c) .store
+stored c = carried-store (c .serve .ensures) (lengths c)
+
+answers : (c : tie.After-serve Inv-loop μ-loop) → answerOf (c .serve .result) (left c .slab) ≡ step (store-of c) (asked c) .answer
+answers c = carried-answer (c .serve .ensures) (lengths c)
+
+-- every number past the last whole rows is as it was when the batch began
+laid-still : (c : tie.After-serve Inv-loop μ-loop) → left c ≡ laid (storeOf (c .serve .result .head) (left c)) (start-tables c)
+laid-still c =
+    let i = (loop-from-serve c) .loop .inv in
+    carried-laid (c .serve .ensures) (lengths c) {t₀ = start-tables c} (i .5) (record { branches = i .0; records = i .1 })
 
 sends : (c : tie.After-serve Inv-loop μ-loop) → (c .serve .result .refusal < 64) × Lies (foundOf (c .serve .result .found)) (c .serve .last .1 .1 .1 .1 .0)
-sends c = outcome-sends (c .serve .result) (c .serve .last .1 .1 .1 .1 .0) (store-of c) (asked c) (c .before .before .before .before .before .before .before .before .before .before .before .loop .inv .4 .sound) (ap (λ (x : Stepped). x .answer) (turned c))
+sends c = outcome-sends (c .serve .result) (c .serve .last .1 .1 .1 .1 .0) (store-of c) (asked c) ((loop-from-serve c) .loop .inv .4 .sound) (answers c)
 
 -- the answer's length
-sized : (c : tie.After-answer-size Inv-loop μ-loop) → c .answer-size .result ≡ length (answerBytes (step (store-of (c .before .before .before .before .before .before .before .before .before .before)) (asked (c .before .before .before .before .before .before .before .before .before .before)) .answer))
-sized c = c .answer-size .ensures (c .before .before .before .before .before .before .before .before .before .before .serve .last .1 .1 .1 .1 .0) (sends (c .before .before .before .before .before .before .before .before .before .before) .1) ∙ ap (λ (x : Stepped). length (answerBytes (x .answer))) (turned (c .before .before .before .before .before .before .before .before .before .before))
+sized : (c : tie.After-answer-size Inv-loop μ-loop) → c .answer-size .result ≡ length (answerBytes (step (store-of (serve-from-answer-size c)) (asked (serve-from-answer-size c)) .answer))
+sized c = c .answer-size .ensures ((serve-from-answer-size c) .serve .last .1 .1 .1 .1 .0) (sends (serve-from-answer-size c) .1) ∙ ap (λ (x : Answer). length (answerBytes x)) (answers (serve-from-answer-size c))
 
 loop-holds : tie.Need-loop-holds Inv-loop μ-loop
 loop-holds c =
-    let s = c .before .before .before .before .before .before in (
+    let s = start-from-slice-known5 c in (
       refl,
       refl,
       refl,
       refl,
-      left-start (storeOf (s .args .first) (s .args .bt .now) (s .args .rt .now) (s .args .pt .now) (s .args .slab .now)) (s .args .input .now) (s .args .answers .now) (s .pre .0),
+      left-start (storeOf (s .args .first) (at-start s)) (s .args .input .now) (s .args .answers .now) (s .pre),
+      laid-self (s .args .first) (at-start s),
     )
 
 sub-part : tie.Need-sub-part Inv-loop μ-loop
@@ -107,8 +208,8 @@ same-length-5 c = search needs
 returns : tie.Need-returns Inv-loop μ-loop
 returns c =
     rw (c .report .ensures, c .before .stop-number .ensures)
-    (over-leaves (c .before .before .before .before .before .before .before .before .before .before .before .before .pre .1) (c .before .before .before .before .before .loop .inv .0) (c .before .before .before .before .before .loop .inv .1)
-    (read-over (c .before .before .before .before .before .before .before .before .before .before .before .before .args .input .now) (c .before .before .before .before .before .loop .at) (c .before .before .before .read-request .result) (c .before .before .before .read-request .ensures) (c .before .before .before .before .before .loop .inv .4) (c .before .before .match .keys2)))
+    (over-leaves (c .before .before .before .before .before .loop .inv .5)
+    (read-over ((start-from-report c) .args .input .now) (c .before .before .before .before .before .loop .at) (c .before .before .before .read-request .result) (c .before .before .before .read-request .ensures) (c .before .before .before .before .before .loop .inv .4) (c .before .before .match .keys2)))
 
 sub-if1 : tie.Need-sub-if1 Inv-loop μ-loop
 sub-if1 c = search needs
@@ -133,12 +234,12 @@ same-length-10 c = search needs
 
 returns-2 : tie.Need-returns-2 Inv-loop μ-loop
 returns-2 c =
-    let l = c .before .before .before .before .before .before .before .loop in
+    let l = (loop-from-report2 c) .loop in
     rw (c .report2 .ensures)
-    (over-leaves (c .before .before .before .before .before .before .before .before .before .before .before .before .before .before .pre .1) (l .inv .0) (l .inv .1) (left-short (l .inv .4) (read (c .before .before .before)) (omega (arith, c .before .if1 .taken, l .inv .4 .long))))
+    (over-leaves (l .inv .5) (left-short (l .inv .4) (read (c .before .before .before)) (omega (arith, c .before .if1 .taken, l .inv .4 .long))))
 
 serve-requires : tie.Need-serve-requires Inv-loop μ-loop
-serve-requires c κs = (c .before .before .before .before .before .before .before .before .before .before .loop .inv .4 .sound, left-whole (c .before .before .before .before .before .before .before .before .before .before .loop .inv .4) (read (c .before .before .before .before .before .before)))
+serve-requires c κs = ((loop-from-serve-arg4 c) .loop .inv .4 .sound, left-whole ((loop-from-serve-arg4 c) .loop .inv .4) (read (p-from-serve-arg4 c)))
 
 answer-size-requires : tie.Need-answer-size-requires Inv-loop μ-loop
 answer-size-requires c κs = search needs
@@ -150,27 +251,27 @@ report-requires-3 : tie.Need-report-requires-3 Inv-loop μ-loop
 report-requires-3 c κs = search needs
 
 same-length-11 : tie.Need-same-length-11 Inv-loop μ-loop
-same-length-11 c = c .before .before .before .before .before .before .before .before .before .before .before .before .serve .kept .1 .0 ∙ c .before .before .before .before .before .before .before .before .before .before .before .before .before .before .before .before .before .before .before .before .before .before .before .loop .inv .0
+same-length-11 c = (serve-from-report3 c) .serve .kept .1 .0 ∙ (loop-from-report3 c) .loop .inv .0
 
 same-length-12 : tie.Need-same-length-12 Inv-loop μ-loop
-same-length-12 c = c .before .before .before .before .before .before .before .before .before .before .before .before .serve .kept .1 .1 .0 ∙ c .before .before .before .before .before .before .before .before .before .before .before .before .before .before .before .before .before .before .before .before .before .before .before .loop .inv .1
+same-length-12 c = (serve-from-report3 c) .serve .kept .1 .1 .0 ∙ (loop-from-report3 c) .loop .inv .1
 
 same-length-13 : tie.Need-same-length-13 Inv-loop μ-loop
-same-length-13 c = c .before .before .before .before .before .before .before .before .before .before .before .before .serve .kept .1 .1 .1 .0 ∙ c .before .before .before .before .before .before .before .before .before .before .before .before .before .before .before .before .before .before .before .before .before .before .before .loop .inv .2
+same-length-13 c = (serve-from-report3 c) .serve .kept .1 .1 .1 .0 ∙ (loop-from-report3 c) .loop .inv .2
 
 same-length-14 : tie.Need-same-length-14 Inv-loop μ-loop
-same-length-14 c = c .before .before .before .before .before .before .before .before .before .before .before .before .serve .kept .1 .1 .1 .1 .0 ∙ c .before .before .before .before .before .before .before .before .before .before .before .before .before .before .before .before .before .before .before .before .before .before .before .loop .inv .3
+same-length-14 c = (serve-from-report3 c) .serve .kept .1 .1 .1 .1 .0 ∙ (loop-from-report3 c) .loop .inv .3
 
 same-length-15 : tie.Need-same-length-15 Inv-loop μ-loop
-same-length-15 c = c .before .before .before .before .before .before .before .before .before .before .before .before .before .before .before .before .before .before .before .before .before .before .before .loop .inv .4 .long
+same-length-15 c = (loop-from-report3 c) .loop .inv .4 .long
 
 returns-3 : tie.Need-returns-3 Inv-loop μ-loop
 returns-3 c =
-    let l = c .before .before .before .before .before .before .before .before .before .before .before .before .before .before .before .before .before .before .before .before .before .before .before .loop .inv in
-    let d = c .before .before .before .before .before .before .before .before .before .before .before .before in
+    let l = (loop-from-report3 c) .loop .inv in
+    let d = serve-from-report3 c in
     rw (c .report3 .ensures)
-    (over-leaves (c .before .before .before .before .before .before .before .before .before .before .before .before .before .before .before .before .before .before .before .before .before .before .before .before .before .before .before .before .before .before .pre .1) (d .serve .kept .1 .0 ∙ l .0) (d .serve .kept .1 .1 .0 ∙ l .1)
-    (left-full-page (l .4) (read (d .before .before .before .before .before .before .before)) (omega (arith, d .before .before .before .before .before .if1 .left, l .4 .long)) (omega (arith, c .before .if2 .taken, sized (c .before .before), l .4 .long)) (ap (λ (x : Stepped). x .store) (turned d))))
+    (over-leaves (laid-still d)
+    (left-full-page (l .4) (read (p-from-serve d)) (omega (arith, d .before .before .before .before .before .if1 .left, l .4 .long)) (omega (arith, c .before .if2 .taken, sized (c .before .before), l .4 .long)) (stored d)))
 
 sub-put-answer : tie.Need-sub-put-answer Inv-loop μ-loop
 sub-put-answer c = search needs
@@ -183,8 +284,8 @@ part-put-answer-end c = search needs
 
 put-answer-requires : tie.Need-put-answer-requires Inv-loop μ-loop
 put-answer-requires c κs =
-    let l = c .before .before .before .before .before .before .before .before .before .before .before .before .before .before .before .before .before .before .before .before .before .before .before .before .loop in
-    let d = c .before .before .before .before .before .before .before .before .before .before .before .before .before in (
+    let l = (loop-from-put-answer-arg2 c) .loop in
+    let d = serve-from-put-answer-arg2 c in (
       sends d .0,
       sends d .1,
       rw (part-all (l .answers) (l .out))
@@ -192,32 +293,33 @@ put-answer-requires c κs =
     )
 
 add-answered : tie.Need-add-answered Inv-loop μ-loop
-add-answered c = omega (arith, c .before .before .before .before .before .before .before .before .before .before .before .before .before .before .before .before .before .before .before .before .before .before .before .before .before .before .before .loop .inv .4 .few, left-taken (c .before .before .before .before .before .before .before .before .before .before .before .before .before .before .before .before .before .before .before .before .before .before .before .before .before .before .before .loop .inv .4) (read (c .before .before .before .before .before .before .before .before .before .before .before .before .before .before .before .before .before .before .before .before .before .before .before)), c .before .before .before .before .before .before .before .before .before .before .before .before .before .before .before .before .before .before .before .before .before .before .before .before .before .before .before .before .before .before .before .before .before .before .good)
+add-answered c = omega (arith, (loop-from-slice-known10 c) .loop .inv .4 .few, left-taken ((loop-from-slice-known10 c) .loop .inv .4) (read (p-from-slice-known10 c)), (start-from-slice-known10 c) .good)
 
 add-at : tie.Need-add-at Inv-loop μ-loop
-add-at c = omega (arith, left-taken (c .before .before .before .before .before .before .before .before .before .before .before .before .before .before .before .before .before .before .before .before .before .before .before .before .before .before .before .loop .inv .4) (read (c .before .before .before .before .before .before .before .before .before .before .before .before .before .before .before .before .before .before .before .before .before .before .before)), c .before .before .before .before .before .before .before .before .before .before .before .before .before .before .before .before .before .before .before .before .before .before .before .before .before .before .before .before .before .before .before .before .before .before .good)
+add-at c = omega (arith, left-taken ((loop-from-slice-known10 c) .loop .inv .4) (read (p-from-slice-known10 c)), (start-from-slice-known10 c) .good)
 
 add-out : tie.Need-add-out Inv-loop μ-loop
-add-out c = omega (arith, c .before .before .before .before .before .if2 .left, c .before .before .before .before .before .before .before .before .before .before .before .before .before .before .before .before .before .before .before .before .before .before .before .before .before .before .before .loop .inv .4 .long, c .before .before .before .before .before .before .before .before .before .before .before .before .before .before .before .before .before .before .before .before .before .before .before .before .before .before .before .before .before .before .before .before .before .before .good)
+add-out c = omega (arith, c .before .before .before .before .before .if2 .left, (loop-from-slice-known10 c) .loop .inv .4 .long, (start-from-slice-known10 c) .good)
 
 loop-less : tie.Need-loop-less Inv-loop μ-loop
-loop-less c = omega (arith, left-taken (c .before .before .before .before .before .before .before .before .before .before .before .before .before .before .before .before .before .before .before .before .before .before .before .before .before .before .before .loop .inv .4) (read (c .before .before .before .before .before .before .before .before .before .before .before .before .before .before .before .before .before .before .before .before .before .before .before)))
+loop-less c = omega (arith, left-taken ((loop-from-slice-known10 c) .loop .inv .4) (read (p-from-slice-known10 c)))
 
 loop-again : tie.Need-loop-again Inv-loop μ-loop
 loop-again c =
-    let l = c .before .before .before .before .before .before .before .before .before .before .before .before .before .before .before .before .before .before .before .before .before .before .before .before .before .before .before .loop in
+    let l = (loop-from-slice-known10 c) .loop in
     let i = l .inv in
-    let d = c .before .before .before .before .before .before .before .before .before .before .before .before .before .before .before .before in (
+    let d = serve-from-slice-known10 c in (
       d .serve .kept .1 .0 ∙ i .0,
       d .serve .kept .1 .1 .0 ∙ i .1,
       d .serve .kept .1 .1 .1 .0 ∙ i .2,
       d .serve .kept .1 .1 .1 .1 .0 ∙ i .3,
-      left-again (i .4) (read (c .before .before .before .before .before .before .before .before .before .before .before .before .before .before .before .before .before .before .before .before .before .before .before)) (ap (λ (x : Stepped). x .store) (turned d)) (ap (λ (x : Stepped). answerBytes (x .answer)) (turned d))
-          (c .before .before .before .before .before .before .answer-size .ensures (d .serve .last .1 .1 .1 .1 .0) (sends d .1)) (omega (arith, c .before .before .before .before .before .if2 .left, i .4 .long))
+      left-again (i .4) (read (p-from-slice-known10 c)) (stored d) (ap answerBytes (answers d))
+          ((answer-size-from-slice-known10 c) .answer-size .ensures (d .serve .last .1 .1 .1 .1 .0) (sends d .1)) (omega (arith, c .before .before .before .before .before .if2 .left, i .4 .long))
           (part-back (l .answers) (l .out) _
           ∙ ap (λ (y : List ℕ). take (l .out) (l .answers) ++ y)
           (c .before .before .put-answer .ensures .1
           ∙ ap (λ (y : List ℕ). answerBytes (answerOf (d .serve .result) (d .serve .last .1 .1 .1 .1 .0)) ++ drop (length (answerBytes (answerOf (d .serve .result) (d .serve .last .1 .1 .1 .1 .0)))) y) (part-all (l .answers) (l .out)))),
+      laid-still d,
     )
 
 pub run-spec : {M : Type 1} → statement M

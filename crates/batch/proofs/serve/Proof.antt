@@ -1,17 +1,56 @@
 use mathlib.Core.Path.{_≡_}
 use Prim.Native.Nat.{_≤_}
+use denote.Ref.{now}
 use lib.ListN.{length, take, drop}
-use Rattle.model.specs.Step.{step}
+use Rattle.rows.specs.View.{Tables, tables}
 use Rattle.store.proofs.Laws.{sound-revertible, sound-readable}
 use Rattle.writing.proofs.Sound.{sound-writable}
-use Rattle.batch.proofs.Laws.{page-room}
+use Rattle.batch.proofs.Laws.{page-room, whole-page}
 use borrow.Author.Needs.{needs}
 use Rattle.batch.proofs.serve.Statement.{statement}
 use Rattle.batch.proofs.serve.Tie as tie
 
+abbrev write-from-rt : tie.After-rt → tie.After-write
+write-from-rt c = c .before
+
+abbrev write-from-slice-known7 : tie.After-slice-known7 → tie.After-write
+write-from-slice-known7 c = write-from-rt (c .before .before .before .before .before)
+
+abbrev shared-slice-known-from-match-keys5 : tie.At-match-keys5 → tie.After-shared-slice-known
+shared-slice-known-from-match-keys5 c = c .before
+
+abbrev shared-slice-known-from-reclaim-arg3 : tie.After-reclaim-arg3 → tie.After-shared-slice-known
+shared-slice-known-from-reclaim-arg3 c = shared-slice-known-from-match-keys5 (c .before .before .before .before .before)
+
+abbrev reclaim-from-bt2 : tie.After-bt2 → tie.After-reclaim
+reclaim-from-bt2 c = c .before
+
+abbrev reclaim-from-slice-known11 : tie.After-slice-known11 → tie.After-reclaim
+reclaim-from-slice-known11 c = reclaim-from-bt2 (c .before .before .before .before .before)
+
+abbrev shared-slice-known-from-write-arg : tie.After-write-arg → tie.After-shared-slice-known
+shared-slice-known-from-write-arg c = c .before .before .before .before
+
+abbrev shared-slice-known-from-write-arg4 : tie.After-write-arg4 → tie.After-shared-slice-known
+shared-slice-known-from-write-arg4 c = shared-slice-known-from-write-arg (c .before .before .before)
+
+abbrev start : tie.After-shared-slice-known → tie.Start
+start c = c .before .before .before .before .before
+
+-- what is lent when the call begins
+abbrev lent : tie.Start → Tables
+lent s = tables (now (s .args .bt)) (now (s .args .rt)) (now (s .args .pt)) (now (s .args .slab))
+
+-- the five arms, from what each call is made with, or leaves
+abbrev written-to : tie.After-write-arg4 → tie.After-shared-slice-known
+written-to c = (shared-slice-known-from-write-arg4 c)
+
+abbrev reclaimed-to : tie.After-reclaim-arg3 → tie.After-shared-slice-known
+reclaimed-to c = (shared-slice-known-from-reclaim-arg3 c)
+
 -- a write's page is whole
-paged : (c : tie.After-q) → length (take 256 (drop 7 (c .before .before .before .before .before .before .before .args .part .now))) ≡ 256
-paged c = rw (c .q .given .1) at (c .before .before .before .before .before .before .before .pre .1)
+paged : (c : tie.After-q) → length (take 256 (drop 7 (now (start (c .before .before) .args .part)))) ≡ 256
+paged c = whole-page (now (start (c .before .before) .args .part)) _ _ (c .q .given .1) (start (c .before .before) .pre .1)
 
 enum-known-q : tie.Need-enum-known-q
 enum-known-q c = search needs
@@ -24,13 +63,14 @@ part-write-start c = search needs
 
 part-write-end : tie.Need-part-write-end
 part-write-end c =
-    let room : 263 ≤ length (c .before .before .before .before .before .before .before .before .before .before .before .args .part .now) = page-room (c .before .before .before .before .before .before .before .before .before .before .before .args .part .now) (paged (c .before .before .before .before)) in
+    let q = c .before .before .before .before in
+    let room : 263 ≤ length (now (start (q .before .before) .args .part)) = page-room (now (start (q .before .before) .args .part)) (paged q) in
     search needs
 
 write-requires : tie.Need-write-requires
 write-requires c κs =
-    let s = c .before .before .before .before .before .before .before .before .before .before .before .before in
-    (sound-writable (s .args .head) (s .args .bt .now) (s .args .rt .now) (s .args .pt .now) (s .args .slab .now) (s .pre .0), paged (c .before .before .before .before .before))
+    let s = start (written-to c) in
+    (sound-writable (s .args .head) (lent s) (s .pre .0), paged (c .before .before .before .before .before))
 
 enum-told : tie.Need-enum-told
 enum-told c = search needs
@@ -43,22 +83,24 @@ enum-known-q-2 c = search needs
 
 revert-requires : tie.Need-revert-requires
 revert-requires c κs =
-    let s = c .before .before .before .before .before .before .before .before .before in
-    sound-revertible (s .args .head) (s .args .bt .now) (s .args .rt .now) (s .args .pt .now) (s .args .slab .now) (s .pre .0)
+    let s = start (c .before .before .before .before) in
+    sound-revertible (s .args .head) (lent s) (s .pre .0)
 
 enum-known-q-3 : tie.Need-enum-known-q-3
 enum-known-q-3 c = search needs
 
 read-requires : tie.Need-read-requires
 read-requires c κs =
-    let s = c .before .before .before .before .before .before .before .before .before .before in
-    sound-readable (s .args .head) (s .args .bt .now) (s .args .rt .now) (s .args .pt .now) (s .args .slab .now) (s .pre .0)
+    let s = start (c .before .before .before .before .before) in
+    sound-readable (s .args .head) (lent s) (s .pre .0)
 
 enum-known-q-4 : tie.Need-enum-known-q-4
 enum-known-q-4 c = search needs
 
 reclaim-requires : tie.Need-reclaim-requires
-reclaim-requires c κs = search needs
+reclaim-requires c κs =
+    let s = start (reclaimed-to c) in
+    record { others = lent s; sound = s .pre .0 }
 
 same-length : tie.Need-same-length
 same-length c = search needs
@@ -69,24 +111,24 @@ same-length-2 c = search needs
 same-length-3 : tie.Need-same-length-3
 same-length-3 c = search needs
 
+abbrev written : tie.After-slice-known7 → tie.After-write
+written c = (write-from-slice-known7 c)
+
 returns : tie.Need-returns
-unfolding step
-returns c = rw (c .before .before .before .before .before .before .before .before .before .before .before .before .q .given .1) (c .before .before .before .before .before .before .write .ensures (c .before .before .before .before .before .before .before .before .before .before .before .before .before .before .before .before .before .before .before .args .bt .now))
+returns c =
+    let w = written c in
+    rw (w .before .before .before .before .before .before .q .given .1) (w .write .ensures (lent (start (written-to (w .before)))))
 
 returns-2 : tie.Need-returns-2
-unfolding step
-returns-2 c =
-    let s = c .before .before .before .before .before .before .before .before in
-    rw (c .before .enum-told .given .1) (c .mark .ensures (s .args .bt .now) (s .args .rt .now) (s .args .pt .now) (s .args .slab .now))
+returns-2 c = rw (c .before .enum-told .given .1) (c .mark .ensures (lent (start (c .before .before .before))))
 
 same-length-4 : tie.Need-same-length-4
 same-length-4 c = search needs
 
 returns-3 : tie.Need-returns-3
-unfolding step
 returns-3 c =
-    let s = c .before .before .before .before .before .before .before .before .before .before .before .before in
-    rw (c .before .before .before .before .before .q2 .given .1) (c .before .before .revert .ensures (s .args .rt .now) (s .args .pt .now) (s .args .slab .now))
+    let q = c .before .before .before .before .before in
+    rw (q .q2 .given .1) (c .before .before .revert .ensures (lent (start (q .before .before))))
 
 same-length-5 : tie.Need-same-length-5
 same-length-5 c = search needs
@@ -95,10 +137,9 @@ same-length-6 : tie.Need-same-length-6
 same-length-6 c = search needs
 
 returns-4 : tie.Need-returns-4
-unfolding step
 returns-4 c =
-    let s = c .before .before .before .before .before .before .before .before .before .before .before in
-    rw (c .before .before .before .before .q3 .given .1) (c .read .ensures .0 (s .args .pt .now) (s .args .slab .now))
+    let q = c .before .before .before .before in
+    rw (q .q3 .given .1) (c .read .ensures (lent (start (q .before .before))))
 
 same-length-7 : tie.Need-same-length-7
 same-length-7 c = search needs
@@ -109,11 +150,13 @@ same-length-8 c = search needs
 same-length-9 : tie.Need-same-length-9
 same-length-9 c = search needs
 
+abbrev reclaimed : tie.After-slice-known11 → tie.After-reclaim
+reclaimed c = (reclaim-from-slice-known11 c)
+
 returns-5 : tie.Need-returns-5
-unfolding step
 returns-5 c =
-    let s = c .before .before .before .before .before .before .before .before .before .before .before .before .before .before .before .before .before .before in
-    rw (c .before .before .before .before .before .before .before .before .before .before .before .q4 .given .1) (c .before .before .before .before .before .before .reclaim .ensures (s .args .slab .now))
+    let w = reclaimed c in
+    rw (w .before .before .before .before .before .q4 .given .1) (w .reclaim .ensures (lent (start (reclaimed-to (w .before)))))
 
 pub serve-spec : {M : Type 1} → statement M
 serve-spec =

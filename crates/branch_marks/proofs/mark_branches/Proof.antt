@@ -1,99 +1,112 @@
+-- `branch_marks::mark_branches` meets its contract: a marked row marks its parent, newest to oldest.
 use mathlib.Core.Path.{ap, _∙_}
+use Prim.Native.Nat.{_≤_, _-_}
 use native.Mathlib.Omega.{arith}
 use borrow.Author.Needs.{needs}
 use denote.Ref.{now}
-use lib.ListN.{length-set}
+use lib.ListN.{length}
 use Rattle.model.specs.declared.Branch.{Branch}
+use Rattle.model.specs.ByNumber.{held}
 use Rattle.rows.specs.Rows.{branchRowsOf}
 use Rattle.rows.proofs.Laws.{branch-count}
-use Rattle.branch_marks.proofs.Marking.{filled-after, Marking, marking-start, marking-end, Turn, turn, turn-above, turn-claimed, turn-drop}
+use Rattle.branch_marks.specs.Marks.{holder}
+use Rattle.branch_marks.proofs.Holders.{line-less}
+use Rattle.branch_marks.proofs.Marking.{filled-after, filled-self, Marking, marking-start, marking-skip, marking-lift, marking-end, lesser-in}
 use Rattle.branch_marks.proofs.mark_branches.Statement.{statement}
 use Rattle.branch_marks.proofs.mark_branches.Tie as tie
 
 abbrev Inv-loop : tie.InvT-loop
-Inv-loop bt n up floor marks₀ i₀ marks i = Marking (branchRowsOf bt) n floor marks₀ marks i
+Inv-loop bt n moments marks₀ p₀ i₀ marks p i = Marking (branchRowsOf bt) n moments marks₀ marks i
 
 abbrev μ-loop : tie.MeasureT-loop
-μ-loop bt n up floor marks₀ i₀ marks i = i
+μ-loop bt n moments marks₀ p₀ i₀ marks p i = i
 
--- a turn of the loop
-turns : (c : tie.In-loop Inv-loop μ-loop)
-    → Turn (branchRowsOf (now (c .before .before .before .before .before .before .before .before .before .args .bt))) (c .before .before .before .before .before .before .before .before .before .args .n) (c .before .before .before .before .before .before .before .before .before .args .floor) (now (c .before .before .before .before .before .before .before .before .before .args .up)) (c .before .before .before .before .clear .last .0) (c .before .loop .marks) (c .before .loop .i)
-turns c =
-    let s = c .before .before .before .before .before .before .before .before .before in
-    turn (s .pre .1 .0) (omega (arith, branch-count (now (s .args .bt)), s .pre .0)) (omega (arith, c .before .before .before .before .clear .ensures .long, s .pre .0)) (s .pre .1 .1) (c .before .loop .inv) (c .loop-test .taken)
+abbrev begun : tie.At-loop Inv-loop μ-loop → tie.After-mark-holders Inv-loop μ-loop
+begun c = c .before .before .before
 
-clear-requires : tie.Need-clear-requires Inv-loop μ-loop
-clear-requires c κs = search needs
+abbrev loop-from-in-loop : tie.In-loop Inv-loop μ-loop → tie.At-loop Inv-loop μ-loop
+loop-from-in-loop c = c .before
+
+abbrev loop-from-row-near : tie.After-row-near Inv-loop μ-loop → tie.At-loop Inv-loop μ-loop
+loop-from-row-near c = loop-from-in-loop (c .before .before .before .before .before)
+
+abbrev start-from-shared-slice-known2 : tie.After-shared-slice-known2 Inv-loop μ-loop → tie.Start Inv-loop μ-loop
+start-from-shared-slice-known2 c = c .before .before
+
+abbrev start-from-slice-known2 : tie.After-slice-known2 Inv-loop μ-loop → tie.Start Inv-loop μ-loop
+start-from-slice-known2 c = start-from-shared-slice-known2 (c .before .before .before .before .before)
+
+abbrev start-from-loop : tie.At-loop Inv-loop μ-loop → tie.Start Inv-loop μ-loop
+start-from-loop c = start-from-slice-known2 (c .before)
+
+-- the start, and what the marks of the holders left
+abbrev start : tie.At-loop Inv-loop μ-loop → tie.Start Inv-loop μ-loop
+start l = (start-from-loop l)
+
+-- the table has the rows
+room : (s : tie.Start Inv-loop μ-loop) → s .args .n ≤ length (branchRowsOf (now (s .args .bt)))
+room s = omega (arith, branch-count (now (s .args .bt)), s .pre .0)
+
+mark-holders-requires : tie.Need-mark-holders-requires Inv-loop μ-loop
+mark-holders-requires c κs = search needs
 
 loop-holds : tie.Need-loop-holds Inv-loop μ-loop
-loop-holds c =
-    let s = c .before .before .before .before .before .before .before in
-    marking-start (s .pre .1 .0) (omega (arith, branch-count (now (s .args .bt)), s .pre)) (s .args .floor) (c .before .before .clear .ensures)
+loop-holds c = let s = (start-from-slice-known2 c) in marking-start (s .pre .1 .0) (room s) (s .pre .1 .1) (filled-self (c .before .before .mark-holders .ensures))
 
 sub-i : tie.Need-sub-i Inv-loop μ-loop
 sub-i c = search needs
 
-branch-at-requires : tie.Need-branch-at-requires Inv-loop μ-loop
-branch-at-requires c κs = search needs
-
-slice-write-marks : tie.Need-slice-write-marks Inv-loop μ-loop
-slice-write-marks c = search needs
-
-mul-p : tie.Need-mul-p Inv-loop μ-loop
-mul-p c = search needs
-
-shared-slice-read-p : tie.Need-shared-slice-read-p Inv-loop μ-loop
-shared-slice-read-p c = search needs
-
-cast-p : tie.Need-cast-p Inv-loop μ-loop
-cast-p c = let t = turns (c .before .before .before .before) in omega (arith, t .low)
-
-slice-write-marks-2 : tie.Need-slice-write-marks-2 Inv-loop μ-loop
-slice-write-marks-2 c = let t = turns (c .before .before .before .before) in simp length-set (omega (arith, t .low, t .inside, t .fits, t .long))
+slice-read-if1 : tie.Need-slice-read-if1 Inv-loop μ-loop
+slice-read-if1 c = let l = c .before .before in omega (arith, l .loop .inv .within, l .loop .inv .long, begun l .mark-holders .ensures .long, start l .pre .0)
 
 loop-less : tie.Need-loop-less Inv-loop μ-loop
 loop-less c = search needs
 
 loop-again : tie.Need-loop-again Inv-loop μ-loop
-loop-again c = turn-above (turns (c .before .before .before .before)) (omega (arith, ap (λ (b : Branch). b .end) (c .before .before .before .branch-at .ensures)))
+loop-again c = let l = c .before .before .before in let s = start l in marking-skip (s .pre .1 .0) (room s) (s .pre .1 .1) (l .loop .inv) (c .before .before .loop-test .taken) (c .if1 .taken)
 
-slice-read-if2 : tie.Need-slice-read-if2 Inv-loop μ-loop
-slice-read-if2 c = search needs
+branch-at-requires : tie.Need-branch-at-requires Inv-loop μ-loop
+branch-at-requires c κs = let l = c .before .before .before in omega (arith, l .loop .inv .within, start l .pre .0)
 
-mul-p-2 : tie.Need-mul-p-2 Inv-loop μ-loop
-mul-p-2 c = search needs
+sub-lesser : tie.Need-sub-lesser Inv-loop μ-loop
+sub-lesser c = search needs
 
-shared-slice-read-p-2 : tie.Need-shared-slice-read-p-2 Inv-loop μ-loop
-shared-slice-read-p-2 c = search needs
+lesser-requires : tie.Need-lesser-requires Inv-loop μ-loop
+lesser-requires c κs = search needs
 
-cast-p-2 : tie.Need-cast-p-2 Inv-loop μ-loop
-cast-p-2 c = let t = turns (c .before .before .before .before .before .before) in omega (arith, t .low)
+row-near-requires : tie.Need-row-near-requires Inv-loop μ-loop
+row-near-requires c κs =
+    let l = c .before .before .before .before .before in
+    let s = start l in
+    let z = c .before .before .before .before .loop-test .taken in (
+      (omega (arith, l .loop .inv .within, s .pre .0), omega (arith, c .lesser .ensures, lesser-in (l .loop .p) (l .loop .i - 1 - 1), z)),
+      (
+        line-less (s .pre .1 .0) (l .loop .i - 1) (omega (arith, l .loop .inv .within)),
+        ap (λ (b : Branch). held (branchRowsOf (now (s .args .bt))) (l .loop .i - 1) (b .cut)) (c .before .branch-at .ensures) ∙ s .pre .1 .0 .parent (l .loop .i - 1) (omega (arith, z)) (omega (arith, l .loop .inv .within)),
+      ),
+    )
 
-slice-write-marks-3 : tie.Need-slice-write-marks-3 Inv-loop μ-loop
-slice-write-marks-3 c = let t = turns (c .before .before .before .before .before .before) in omega (arith, t .low, t .inside, t .fits, t .long)
+slice-write-marks : tie.Need-slice-write-marks Inv-loop μ-loop
+slice-write-marks c = let l = (loop-from-row-near c) in omega (arith, l .loop .inv .within, l .loop .inv .long, begun l .mark-holders .ensures .long, start l .pre .0, c .row-near .ensures .inside)
 
 loop-less-2 : tie.Need-loop-less-2 Inv-loop μ-loop
 loop-less-2 c = search needs
 
 loop-again-2 : tie.Need-loop-again-2 Inv-loop μ-loop
-loop-again-2 c = turn-claimed (turns (c .before .before .before .before .before .before)) (c .before .if2 .taken)
-
-loop-less-3 : tie.Need-loop-less-3 Inv-loop μ-loop
-loop-less-3 c = search needs
-
-loop-again-3 : tie.Need-loop-again-3 Inv-loop μ-loop
-loop-again-3 c = turn-drop (turns (c .before .before .before .before .before)) (omega (arith, ap (λ (b : Branch). b .end) (c .before .before .before .before .branch-at .ensures))) (c .if2 .left)
+loop-again-2 c =
+    let l = (loop-from-row-near c) in
+    let s = start l in
+    marking-lift (s .pre .1 .0) (room s) (s .pre .1 .1) (l .loop .inv) (c .before .before .before .before .before .loop-test .taken) (omega (arith, begun l .mark-holders .ensures .long, s .pre .0))
+    (c .row-near .ensures .here ∙ ap (λ (b : Branch). holder (branchRowsOf (now (s .args .bt))) (l .loop .i - 1) (b .cut)) (c .before .before .branch-at .ensures)) (c .before .before .before .if1 .left)
 
 same-length : tie.Need-same-length Inv-loop μ-loop
-same-length c = c .before .loop .inv .long ∙ c .before .before .before .before .clear .ensures .long
+same-length c = c .before .loop .inv .long ∙ begun (c .before) .mark-holders .ensures .long
 
 returns : tie.Need-returns Inv-loop μ-loop
 returns c =
     let l = c .before in
-    let s = c .before .before .before .before .before .before .before .before .before in
-    filled-after (c .before .before .before .before .clear .ensures) (omega arith)
-    (marking-end (s .pre .1 .0) (omega (arith, branch-count (now (s .args .bt)), s .pre)) (s .args .floor) (l .loop .inv) (c .loop-test .left))
+    let s = start l in
+    filled-after (begun l .mark-holders .ensures) (omega arith) (marking-end (s .pre .1 .0) (room s) (s .pre .1 .1) (l .loop .inv) (omega (arith, c .loop-test .left)))
 
 pub mark-branches-spec : {M : Type 1} → statement M
 mark-branches-spec =
@@ -101,25 +114,18 @@ mark-branches-spec =
     (tie.spec
     Inv-loop
     μ-loop
-    clear-requires
+    mark-holders-requires
     loop-holds
     sub-i
-    branch-at-requires
-    slice-write-marks
-    mul-p
-    shared-slice-read-p
-    cast-p
-    slice-write-marks-2
+    slice-read-if1
     loop-less
     loop-again
-    slice-read-if2
-    mul-p-2
-    shared-slice-read-p-2
-    cast-p-2
-    slice-write-marks-3
+    branch-at-requires
+    sub-lesser
+    lesser-requires
+    row-near-requires
+    slice-write-marks
     loop-less-2
     loop-again-2
-    loop-less-3
-    loop-again-3
     same-length
     returns)

@@ -1,14 +1,44 @@
 -- `fresh::make` meets its contract: the sizes are tested before any table is touched.
-use Prim.Native.Nat.{ℕ}
 use mathlib.Core.Path.{sym, ap, _∙_}
 use native.Mathlib.Omega.{arith}
 use borrow.Author.Needs.{needs}
 use borrow.Author.Tests.{not-true, not-false}
-use lib.ListN.{length, length-replicate}
+use lib.ListN.{length}
 use Rattle.soundness.proofs.Sizes.{lengths→}
-use Rattle.fresh.proofs.Fresh.{refused, made}
+use Rattle.rows.proofs.Laws.{length-zeros}
+use Rattle.fresh.proofs.Fresh.{refused, made-by}
 use Rattle.fresh.proofs.make.Statement.{statement}
 use Rattle.fresh.proofs.make.Tie as tie
+
+abbrev start-from-slice-known : tie.After-slice-known → tie.Start
+start-from-slice-known c = c .before
+
+abbrev start-from-else1 : tie.Else1 → tie.Start
+start-from-else1 c = start-from-slice-known (c .before .before .before .before .before)
+
+abbrev clear3-from-set-branch-arg : tie.After-set-branch-arg → tie.After-clear3
+clear3-from-set-branch-arg c = c .before .before .before
+
+abbrev clear3-from-slice-known7 : tie.After-slice-known7 → tie.After-clear3
+clear3-from-slice-known7 c = clear3-from-set-branch-arg (c .before .before .before)
+
+abbrev clear2-from-slice-known7 : tie.After-slice-known7 → tie.After-clear2
+clear2-from-slice-known7 c = (clear3-from-slice-known7 c) .before .before .before .before
+
+abbrev clear-from-clear2 : tie.After-clear2 → tie.After-clear
+clear-from-clear2 c = c .before .before .before .before
+
+abbrev clear-from-set-branch-arg : tie.After-set-branch-arg → tie.After-clear
+clear-from-set-branch-arg c = clear-from-clear2 ((clear3-from-set-branch-arg c) .before .before .before .before)
+
+abbrev else1-from-set-branch-arg : tie.After-set-branch-arg → tie.Else1
+else1-from-set-branch-arg c = (clear-from-set-branch-arg c) .before .before
+
+abbrev clear-from-slice-known7 : tie.After-slice-known7 → tie.After-clear
+clear-from-slice-known7 c = clear-from-clear2 (clear2-from-slice-known7 c)
+
+abbrev else1-from-slice-known7 : tie.After-slice-known7 → tie.Else1
+else1-from-slice-known7 c = (clear-from-slice-known7 c) .before .before
 
 sizes-allowed-requires : tie.Need-sizes-allowed-requires
 sizes-allowed-requires c κs = search needs
@@ -27,22 +57,19 @@ clear-requires-3 c κs = search needs
 
 set-branch-requires : tie.Need-set-branch-requires
 set-branch-requires c κs =
-    let e = c .before .before .before .before .before .before .before .before .before .before .before .before .before in
+    let e = else1-from-set-branch-arg c in
     omega (
       arith,
-      ap length (c .before .before .before .before .before .before .before .before .before .before .before .clear .ensures),
-      length-replicate {A = ℕ} (length (e .before .before .before .before .before .before .args .bt .now)) 0,
+      ap length ((clear-from-set-branch-arg c) .clear .ensures),
+      length-zeros (length ((start-from-else1 e) .args .bt .now)),
       lengths→ (sym (e .before .sizes-allowed .ensures) ∙ not-false _ (e .if1 .left)) .allowed .branches-low,
     )
 
 returns-2 : tie.Need-returns-2
 returns-2 c =
-    let e = c .before .before .before .before .before .before .before .before .before .before .before .before .before .before .before .before in
-    made (sym (e .before .sizes-allowed .ensures) ∙ not-false _ (e .if1 .left))
-    (c .before .before .set-branch .ensures .0 ∙ rw (c .before .before .before .before .before .before .before .before .before .before .before .before .before .before .clear .ensures))
-    (c .before .before .set-branch .ensures .1 ∙ (ap length (c .before .before .before .before .before .before .before .before .before .before .before .before .before .before .clear .ensures) ∙ length-replicate (length (e .before .before .before .before .before .before .args .bt .now)) 0))
-    (c .before .before .before .before .before .before .before .before .before .before .clear2 .ensures)
-    (c .before .before .before .before .before .before .clear3 .ensures)
+    let e = else1-from-slice-known7 c in
+    made-by (sym (e .before .sizes-allowed .ensures) ∙ not-false _ (e .if1 .left)) ((clear-from-slice-known7 c) .clear .ensures) (c .before .before .set-branch .ensures)
+    ((clear2-from-slice-known7 c) .clear2 .ensures) ((clear3-from-slice-known7 c) .clear3 .ensures)
 
 same-length : tie.Need-same-length
 same-length c = search needs

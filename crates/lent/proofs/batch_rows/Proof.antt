@@ -1,7 +1,7 @@
 use mathlib.Core.Path.{sym}
-use Prim.Native.Nat.{_*_, _≤_}
-use lib.ListN.{length}
+use Prim.Native.Nat.{_*_}
 use lib.Seq.{length-take-le}
+use Rattle.rows.specs.Rows.{branchWidth, BranchesIn}
 use Rattle.lent.proofs.Lending.{rest-stays, batch-back}
 use borrow.Author.Needs.{needs}
 use Rattle.lent.proofs.batch_rows.Statement.{statement}
@@ -10,6 +10,33 @@ use Rattle.lent.proofs.batch_rows.Reads as reads
 use Rattle.lent.proofs.batch_rows.Lts as lts
 use Rattle.batch.proofs.batch.Reads as batch-reads
 
+abbrev start-from-slice-known2 : tie.After-slice-known2 → tie.Start
+start-from-slice-known2 c = c .before .before
+
+abbrev start-from-batch-arg : tie.After-batch-arg → tie.Start
+start-from-batch-arg c = start-from-slice-known2 (c .before .before .before .before .before)
+
+abbrev batch-from-table : tie.After-table → tie.After-batch
+batch-from-table c = c .before
+
+abbrev batch-from-slice-known8 : tie.After-slice-known8 → tie.After-batch
+batch-from-slice-known8 c = batch-from-table (c .before .before .before .before .before)
+
+abbrev batch-from-after : tie.After-after → tie.After-batch
+batch-from-after c = batch-from-slice-known8 (c .before .before .before .before .before)
+
+abbrev start-from-batch-arg2 : tie.After-batch-arg2 → tie.Start
+start-from-batch-arg2 c = start-from-batch-arg (c .before)
+
+abbrev start-from-table : tie.After-table → tie.Start
+start-from-table c = start-from-batch-arg2 (c .before .before .before .before .before)
+
+abbrev start-from-slice-known8 : tie.After-slice-known8 → tie.Start
+start-from-slice-known8 c = start-from-table (c .before .before .before .before .before)
+
+abbrev start-from-after : tie.After-after → tie.Start
+start-from-after c = start-from-slice-known8 (c .before .before .before .before .before)
+
 mul-end : tie.Need-mul-end
 mul-end c = search needs
 
@@ -17,7 +44,7 @@ slice-relend-prefix-batch : tie.Need-slice-relend-prefix-batch
 slice-relend-prefix-batch c = search needs
 
 slice-aggregate-batch : tie.Need-slice-aggregate-batch
-slice-aggregate-batch c = sym (length-take-le (c .before .before .before .before .before .before .before .args .count * 3) (c .before .before .before .before .before .before .before .args .table .now) (c .before .before .before .before .before .before .before .pre))
+slice-aggregate-batch c = sym (length-take-le ((start-from-batch-arg c) .args .count * branchWidth) ((start-from-batch-arg c) .args .table .now) ((start-from-batch-arg c) .pre))
 
 batch-requires : tie.Need-batch-requires
 batch-requires c κs = search needs
@@ -39,12 +66,11 @@ same-length-5 c = search needs
 
 returns : tie.Need-returns
 returns c =
-    let s = c .before .before .before .before .before .before .before .before .before .before .before .before .before .before .before .before .before .before .before .before .before .before .before .args in
-    let d = c .before .before .before .before .before .before .before .before .before .before .before .batch in
-    let fits : s .count * 3 ≤ length (s .table .now) = c .before .before .before .before .before .before .before .before .before .before .before .before .before .before .before .before .before .before .before .before .before .before .before .pre in (
-      rest-stays (s .count) (s .table .now) fits (d .last .1 .0) (same-length c),
-      batch-back (s .count) (s .table .now) fits (d .last .1 .0) (same-length c) (s .head) (s .rt .now) (s .pt .now) (s .slab .now) (s .input .now) (s .answers .now) (d .result) (d .last .1 .1 .0) (d .last .1 .1 .1 .0) (d .last .1 .1 .1 .1 .0)
-          (d .last .1 .1 .1 .1 .1 .1 .0) (d .ensures),
+    let s = (start-from-after c) .args in
+    let d = (batch-from-after c) .batch in
+    let fits : BranchesIn (s .count) (s .table .now) = (start-from-after c) .pre in (
+      rest-stays (s .count) (s .table .now) fits (s .rt .now) (s .pt .now) (s .slab .now) (d .last .1 .0) (same-length c),
+      batch-back (s .count) (s .table .now) fits (s .rt .now) (s .pt .now) (s .slab .now) (d .last .1 .0) (same-length c) (s .head) (s .input .now) (s .answers .now) (d .ensures),
     )
 
 pub batch-rows-spec : {M : Type 1} → statement M

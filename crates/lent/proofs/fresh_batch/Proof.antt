@@ -51,7 +51,7 @@ use Rattle.model.specs.declared.Head.{Head}
 use Rattle.model.specs.Store.{zero-branch}
 use Rattle.lent.specs.declared.Report.{Report}
 use Rattle.lent.specs.declared.Ended.{Ended}
-use Rattle.lent.specs.Lent.{lentBatch, lentFresh, lentRefusal, BatchLeaves, FreshLeaves, freshBatch}
+use Rattle.lent.specs.Lent.{lent, lentBatch, BatchLeaves, FreshLeaves, zeroRows, freshBatch}
 use Rattle.lent.proofs.Again.{LentAgain, lends-again, comes-back, LentShared, lends-shared, shared-back}
 use Rattle.lent.proofs.Local.{repeat-val, repeat-typed, repeat-own, here, at-list, array-in, array-out, lends-local, local-back}
 use Rattle.lent.proofs.Starting.{then-batch}
@@ -171,13 +171,13 @@ module _ {M : Type 1} (𝓤 : URA M) (H : Heap 𝓤) (A : Atoms 𝓤) (W : Given
 
   -- what the contract says, and what each callee ensures
   abbrev Said : Head → Report → List ℕ → List ℕ → List ℕ → List ℕ → Type 0
-  Said h′ r z-rt z-pt z-slab z-answers = BatchLeaves (freshBatch size rt pt slab input (length answers)) rt answers r h′ (freshBatch size rt pt slab input (length answers) .store .branchRows) z-rt z-pt z-slab z-answers
+  Said h′ r z-rt z-pt z-slab z-answers = BatchLeaves (freshBatch size (zeroRows rt pt slab) input (length answers)) (zeroRows rt pt slab) answers r h′ (lent (freshBatch size (zeroRows rt pt slab) input (length answers) .store .branchRows) z-rt z-pt z-slab) z-answers
 
   abbrev Made : ℕ → Head → List Branch → List ℕ → List ℕ → Type 0
-  Made r h₁ b₁ rt₁ pt₁ = FreshLeaves (lentRefusal head₀ rows₀ rt pt slab size) (lentFresh head₀ rows₀ rt pt slab size) rt r h₁ b₁ rt₁ pt₁
+  Made r h₁ b₁ rt₁ pt₁ = FreshLeaves head₀ (zeroRows rt pt slab) size r h₁ (lent b₁ rt₁ pt₁ slab)
 
   abbrev Ran : Head → List Branch → List ℕ → List ℕ → Report → Head → List Branch → List ℕ → List ℕ → List ℕ → List ℕ → Type 0
-  Ran h₁ b₁ rt₁ pt₁ r h₂ b₂ rt₂ pt₂ slab₂ answers₂ = BatchLeaves (lentBatch h₁ b₁ rt₁ pt₁ slab input (length answers)) rt₁ answers r h₂ b₂ rt₂ pt₂ slab₂ answers₂
+  Ran h₁ b₁ rt₁ pt₁ r h₂ b₂ rt₂ pt₂ slab₂ answers₂ = BatchLeaves (lentBatch h₁ (lent b₁ rt₁ pt₁ slab) input (length answers)) (lent b₁ rt₁ pt₁ slab) answers r h₂ (lent b₂ rt₂ pt₂ slab₂) answers₂
 
   abbrev out : Head → Report → Ended
   out h′ r = record { head = h′; report = r }
@@ -630,7 +630,7 @@ module _ {M : Type 1} (𝓤 : URA M) (H : Heap 𝓤) (A : Atoms 𝓤) (W : Given
         free1 ! $
         free0 ! $
         keep ! (0 ∷ 4 ∷ 3 ∷ 2 ∷ 5 ∷ 1 ∷ []) $
-        by ! (exits (ys .0) r (ys .1 .1 .0) (ys .1 .1 .1 .0) (ys .1 .1 .1 .1 .0) (ys .1 .1 .1 .1 .1 .1 .0) (then-batch size rt pt slab _ r₁ (zs .0) (zs .1 .1 .0) (zs .1 .1 .1 .0) (zs .1 .1 .1 .1 .0) same-rt₁ made input answers r (ys .0) (ys .1 .0) (ys .1 .1 .0) (ys .1 .1 .1 .0) (ys .1 .1 .1 .1 .0) (ys .1 .1 .1 .1 .1 .1 .0) ran) (same-rt₂ ∙ same-rt₁) (same-pt₂ ∙ same-pt₁) same-slab₂ same-answers₂ (out-is (ys .0) r now-is (q-is r is)))))))))))))))))))))))))))))))))))))))))))))))))))))))))))))))))))))
+        by ! (exits (ys .0) r (ys .1 .1 .0) (ys .1 .1 .1 .0) (ys .1 .1 .1 .1 .0) (ys .1 .1 .1 .1 .1 .1 .0) (then-batch size (zeroRows rt pt slab) r₁ (zs .0) (lent (zs .1 .1 .0) (zs .1 .1 .1 .0) (zs .1 .1 .1 .1 .0) slab) same-rt₁ made input answers r (ys .0) (lent (ys .1 .0) (ys .1 .1 .0) (ys .1 .1 .1 .0) (ys .1 .1 .1 .1 .0)) (ys .1 .1 .1 .1 .1 .1 .0) ran) (same-rt₂ ∙ same-rt₁) (same-pt₂ ∙ same-pt₁) same-slab₂ same-answers₂ (out-is (ys .0) r now-is (q-is r is)))))))))))))))))))))))))))))))))))))))))))))))))))))))))))))))))))))
 
 module _ {M : Type 1} (𝓤 : URA M) (H : Heap 𝓤) (A : Atoms 𝓤) (W : Given 𝓤 H A) (at-mem : Memory → SProp 𝓤) (run : Routine → Fun 𝓤) (𝓣 : Tables 𝓤 H) (known-make : Triple 𝓤 (𝓣 .C #lent·make-fresh) (Mk 𝓤 H A at-mem run)) (known-run : Triple 𝓤 (𝓣 .C #lent·run-batch) (Rn 𝓤 H A at-mem run)) where
   f-walks : Walks 𝓤 H A f.ended stayed (WpFn 𝓤 H (𝓣 .C) (𝓣 .Λ) code.function) (f.clauses 𝓤 H A at-mem run)

@@ -1,7 +1,7 @@
 use mathlib.Core.Path.{sym}
-use Prim.Native.Nat.{_*_, _≤_}
-use lib.ListN.{length}
+use Prim.Native.Nat.{_*_}
 use lib.Seq.{length-take-le}
+use Rattle.rows.specs.Rows.{branchWidth, BranchesIn}
 use Rattle.lent.proofs.Lending.{rest-stays, fresh-back}
 use borrow.Author.Needs.{needs}
 use Rattle.lent.proofs.fresh_rows.Statement.{statement}
@@ -10,6 +10,12 @@ use Rattle.lent.proofs.fresh_rows.Reads as reads
 use Rattle.lent.proofs.fresh_rows.Lts as lts
 use Rattle.fresh.proofs.make.Reads as make-reads
 
+abbrev start-from-slice-known6 : tie.After-slice-known6 → tie.Start
+start-from-slice-known6 c = c .before .before .before .before .before .before .before .before .before .before .before .before .before .before
+
+abbrev make-from-slice-known6 : tie.After-slice-known6 → tie.After-make
+make-from-slice-known6 c = c .before .before .before .before .before .before
+
 mul-end : tie.Need-mul-end
 mul-end c = search needs
 
@@ -17,7 +23,7 @@ slice-relend-prefix-make : tie.Need-slice-relend-prefix-make
 slice-relend-prefix-make c = search needs
 
 slice-aggregate-make : tie.Need-slice-aggregate-make
-slice-aggregate-make c = sym (length-take-le (c .before .before .before .before .before .args .count * 3) (c .before .before .before .before .before .args .table .now) (c .before .before .before .before .before .pre))
+slice-aggregate-make c = sym (length-take-le (c .before .before .before .before .before .args .count * branchWidth) (c .before .before .before .before .before .args .table .now) (c .before .before .before .before .before .pre))
 
 make-requires : tie.Need-make-requires
 make-requires c κs = search needs
@@ -33,11 +39,11 @@ same-length-3 c = search needs
 
 returns : tie.Need-returns
 returns c =
-    let s = c .before .before .before .before .before .before .before .before .before .before .before .before .before .before .args in
-    let m = c .before .before .before .before .before .before .make in
-    let fits : s .count * 3 ≤ length (s .table .now) = c .before .before .before .before .before .before .before .before .before .before .before .before .before .before .pre in (
-      rest-stays (s .count) (s .table .now) fits (m .last .1 .1 .0) (same-length c),
-      fresh-back (s .count) (s .table .now) fits (m .last .1 .1 .0) (same-length c) (s .head) (s .size) (s .rt .now) (s .pt .now) (s .slab .now) (m .result) (m .last .1 .1 .1 .0) (m .last .1 .1 .1 .1 .0) (m .ensures),
+    let s = (start-from-slice-known6 c) .args in
+    let m = (make-from-slice-known6 c) .make in
+    let fits : BranchesIn (s .count) (s .table .now) = (start-from-slice-known6 c) .pre in (
+      rest-stays (s .count) (s .table .now) fits (s .rt .now) (s .pt .now) (s .slab .now) (m .last .1 .1 .0) (same-length c),
+      fresh-back (s .count) (s .table .now) fits (s .rt .now) (s .pt .now) (s .slab .now) (m .last .1 .1 .0) (same-length c) (s .head) (s .size) (m .ensures),
     )
 
 pub fresh-rows-spec : {M : Type 1} → statement M

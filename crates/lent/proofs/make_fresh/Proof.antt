@@ -52,9 +52,9 @@ use denote.Triple.Walked.{says, Stays, stay-none, stay-none-slice, stay-ref, gav
 use denote.Exit.{yes}
 use Rattle.model.specs.declared.Branch.{Branch}
 use Rattle.model.specs.declared.Head.{Head}
-use Rattle.rows.specs.Rows.{branchRowsOf}
+use Rattle.rows.specs.Rows.{branchWidth, branchRowsOf}
 use Rattle.fresh.specs.declared.Made.{Made}
-use Rattle.lent.specs.Lent.{lentFresh, lentRefusal, FreshLeaves}
+use Rattle.lent.specs.Lent.{lent, FreshLeaves}
 use Rattle.lent.proofs.Lending.{many-fresh-leaves}
 use Rattle.lent.proofs.Again.{LentShared, lends-shared, shared-back}
 use Rattle.lent.proofs.Ifs.{falls, enters, gives-slice}
@@ -140,7 +140,7 @@ module _ {M : Type 1} (𝓤 : URA M) (H : Heap 𝓤) (A : Atoms 𝓤) (W : Given
 
   -- what the contract says of the result and of the last values
   abbrev Said : ℕ → Head → List Branch → List ℕ → List ℕ → Type 0
-  Said r h′ zr z-rt z-pt = FreshLeaves (lentRefusal h ys rt pt slab size) (lentFresh h ys rt pt slab size) rt r h′ zr z-rt z-pt
+  Said r h′ zr z-rt z-pt = FreshLeaves h (lent ys rt pt slab) size r h′ (lent zr z-rt z-pt slab)
 
   exits : (r : ℕ) (h′ : Head) (zr : List Branch) (z-rt : List ℕ) (z-pt : List ℕ) → Said r h′ zr z-rt z-pt → length zr ≡ length ys → length z-rt ≡ length rt → length z-pt ≡ length pt → Is u32 r (vint w32 r ∷ [])
       → ent 𝓤 (⋆ 𝓤 H A (‵ (fobs γ₀ (R .coded .code h′)) ∷ ‵ (fbor κ₀ (Body (mem R) b₀ o₀ γ₀)) ∷ ‵ (flft κ₀ q₀) ∷ ‵ (flft κ₁ q₁) ∷ (‵ (flft κ₂ q₂) ⊛ ‵ (flft κ₃ q₃) ⊛ ‵ (flft κ₄ q₄) ⊛ ‵ ftrue) ∷ ‵ (finally S γ₂ zr) ∷ ‵ (finally u32 γ₃ z-rt) ∷ ‵ (finally u32 γ₄ z-pt) ∷ ‵ (ShrSlice (named 4) κ₄ u8 .own x₅ (s₅ ∷ [])) ∷ [])) (Post (vint w32 r))
@@ -180,7 +180,7 @@ module _ {M : Type 1} (𝓤 : URA M) (H : Heap 𝓤) (A : Atoms 𝓤) (W : Given
 
   -- what the core ensures, of its result and the last lists; zt is the table's
   abbrev Did : Made → List ℕ → List ℕ → List ℕ → Type 0
-  Did r zt z-rt z-pt = (dropL (length ys * 3) zt ≡ dropL (length ys * 3) (full ys)) × FreshLeaves (lentRefusal h (take (length ys) (branchRowsOf (full ys))) rt pt slab size) (lentFresh h (take (length ys) (branchRowsOf (full ys))) rt pt slab size) rt (r .refusal) (r .head) (take (length ys) (branchRowsOf zt)) z-rt z-pt
+  Did r zt z-rt z-pt = (dropL (length ys * branchWidth) zt ≡ dropL (length ys * branchWidth) (full ys)) × FreshLeaves h (lent (take (length ys) (branchRowsOf (full ys))) rt pt slab) size (r .refusal) (r .head) (lent (take (length ys) (branchRowsOf zt)) z-rt z-pt slab)
 
   stored-said : length ys ≤ 4096 → (r : Made) (zt : List ℕ) (zr : List Branch) (z-rt : List ℕ) (z-pt : List ℕ) → Did r zt z-rt z-pt → zr ≡ take (length ys) (branchRowsOf zt) → Said (r .refusal) (r .head) zr z-rt z-pt
   stored-said small r zt zr z-rt z-pt did e =
@@ -308,7 +308,7 @@ module _ {M : Type 1} (𝓤 : URA M) (H : Heap 𝓤) (A : Atoms 𝓤) (W : Given
         free1 ! $
         free0 ! $
         keep ! (6 ∷ 7 ∷ 5 ∷ 3 ∷ 4 ∷ 2 ∷ 1 ∷ 0 ∷ 8 ∷ []) $
-        by ! (exits refused h ys rt pt (many-fresh-leaves h ys rt pt slab big size) refl refl refl refused-is))))))))))))))))))))))))))))
+        by ! (exits refused h ys rt pt (many-fresh-leaves h (lent ys rt pt slab) big size) refl refl refl refused-is))))))))))))))))))))))))))))
 
     few : ltb 4096 (length ys) ≡ false → Goal
     few e =
@@ -321,7 +321,7 @@ module _ {M : Type 1} (𝓤 : URA M) (H : Heap 𝓤) (A : Atoms 𝓤) (W : Given
         rewrite ! 32 (λ (t : Bool). ‵ (fat fullShare tyBool l₁₀ 0 (vbool t))) (e) refl $
         falls ! (load ! (from ! (stop !)) (look ! 32 refl)) $
         -- the table is made, and stands as its elements from now on
-        assigns ! (rep ! 12288 (lit ! tt)) (from ! (stop !)) (init ! 38 refl (repeat-typed u32 0 (vint w32 0) zero-is 𝓤 H A W N (uint-lawful 𝓤 H A W w32))) $
+        assigns ! (rep ! N (lit ! tt)) (from ! (stop !)) (init ! 38 refl (repeat-typed u32 0 (vint w32 0) zero-is 𝓤 H A W N (uint-lawful 𝓤 H A W w32))) $
         use0 W (‵ (Array u32 N .own zeros (repeat-val N (vint w32 0) ∷ []))) (repeat-own u32 0 (vint w32 0) zero-is 𝓤 H A W N (uint-makes 𝓤 H A W w32) (uint-copy 𝓤 H A W w32)) $
         move ! (39 ∷ 0 ∷ []) $
         use2 W (‵ (here u32 N l₇ zeros)) (array-in 𝓤 H A W u32 N l₇ tt zeros (repeat-val N (vint w32 0))) $

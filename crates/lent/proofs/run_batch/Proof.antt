@@ -52,10 +52,10 @@ use denote.Triple.Walked.{says, Stays, stay-none-slice, stay-ref, gave-slice, wa
 use denote.Exit.{yes}
 use Rattle.model.specs.declared.Branch.{Branch}
 use Rattle.model.specs.declared.Head.{Head}
-use Rattle.rows.specs.Rows.{branchRowsOf}
+use Rattle.rows.specs.Rows.{branchWidth, branchRowsOf}
 use Rattle.lent.specs.declared.Report.{Report}
 use Rattle.lent.specs.declared.Ended.{Ended}
-use Rattle.lent.specs.Lent.{lentBatch, BatchLeaves}
+use Rattle.lent.specs.Lent.{lent, lentBatch, BatchLeaves}
 use Rattle.lent.proofs.Lending.{many-batch-leaves}
 use Rattle.lent.proofs.Again.{LentShared, lends-shared, shared-back}
 use Rattle.lent.proofs.Ifs.{falls, enters, gives-slice}
@@ -155,7 +155,7 @@ module _ {M : Type 1} (𝓤 : URA M) (H : Heap 𝓤) (A : Atoms 𝓤) (W : Given
 
   -- what the contract says of the result and of the last values
   abbrev Said : Report → Head → List Branch → List ℕ → List ℕ → List ℕ → List ℕ → Type 0
-  Said r h′ zr z-rt z-pt z-slab z-answers = BatchLeaves (lentBatch h ys rt pt slab input (length answers)) rt answers r h′ zr z-rt z-pt z-slab z-answers
+  Said r h′ zr z-rt z-pt z-slab z-answers = BatchLeaves (lentBatch h (lent ys rt pt slab) input (length answers)) (lent ys rt pt slab) answers r h′ (lent zr z-rt z-pt z-slab) z-answers
 
   exits : (r : Report) (h′ : Head) (zr : List Branch) (z-rt : List ℕ) (z-pt : List ℕ) (z-slab : List ℕ) (z-answers : List ℕ) → Said r h′ zr z-rt z-pt z-slab z-answers → length zr ≡ length ys → length z-rt ≡ length rt → length z-pt ≡ length pt → length z-slab ≡ length slab → length z-answers ≡ length answers → Is Q.the-row r (Q′.lowered r ∷ [])
       → ent 𝓤 (⋆ 𝓤 H A (‵ (fobs γ₀ (R .coded .code h′)) ∷ ‵ (fbor κ₀ (Body (mem R) b₀ o₀ γ₀)) ∷ ‵ (flft κ₀ q₀) ∷ ‵ (flft κ₁ q₁) ∷ (‵ (flft κ₂ q₂) ⊛ ‵ (flft κ₃ q₃) ⊛ ‵ (flft κ₄ q₄) ⊛ ‵ (flft κ₅ q₅) ⊛ ‵ (flft κ₆ q₆) ⊛ ‵ ftrue) ∷ ‵ (finally S γ₁ zr) ∷ ‵ (finally u32 γ₂ z-rt) ∷ ‵ (finally u32 γ₃ z-pt) ∷ ‵ (finally u8 γ₄ z-slab) ∷ ‵ (finally u8 γ₆ z-answers) ∷ ‵ (ShrSlice (named 5) κ₅ u8 .own x₅ (s₅ ∷ [])) ∷ [])) (Post (Q′.lowered r))
@@ -197,7 +197,7 @@ module _ {M : Type 1} (𝓤 : URA M) (H : Heap 𝓤) (A : Atoms 𝓤) (W : Given
 
   -- what the core ensures, of its result and the last lists; zt is the table's
   abbrev Did : Ended → List ℕ → List ℕ → List ℕ → List ℕ → List ℕ → Type 0
-  Did r zt z-rt z-pt z-slab z-answers = (dropL (length ys * 3) zt ≡ dropL (length ys * 3) (full ys)) × BatchLeaves (lentBatch h (take (length ys) (branchRowsOf (full ys))) rt pt slab input (length answers)) rt answers (r .report) (r .head) (take (length ys) (branchRowsOf zt)) z-rt z-pt z-slab z-answers
+  Did r zt z-rt z-pt z-slab z-answers = (dropL (length ys * branchWidth) zt ≡ dropL (length ys * branchWidth) (full ys)) × BatchLeaves (lentBatch h (lent (take (length ys) (branchRowsOf (full ys))) rt pt slab) input (length answers)) (lent (take (length ys) (branchRowsOf (full ys))) rt pt slab) answers (r .report) (r .head) (lent (take (length ys) (branchRowsOf zt)) z-rt z-pt z-slab) z-answers
 
   stored-said : length ys ≤ 4096 → (r : Ended) (zt : List ℕ) (zr : List Branch) (z-rt : List ℕ) (z-pt : List ℕ) (z-slab : List ℕ) (z-answers : List ℕ) → Did r zt z-rt z-pt z-slab z-answers → zr ≡ take (length ys) (branchRowsOf zt) → Said (r .report) (r .head) zr z-rt z-pt z-slab z-answers
   stored-said small r zt zr z-rt z-pt z-slab z-answers did e =
@@ -342,7 +342,7 @@ module _ {M : Type 1} (𝓤 : URA M) (H : Heap 𝓤) (A : Atoms 𝓤) (W : Given
         free1 ! $
         free0 ! $
         keep ! (8 ∷ 9 ∷ 7 ∷ 5 ∷ 6 ∷ 4 ∷ 3 ∷ 2 ∷ 1 ∷ 0 ∷ 10 ∷ []) $
-        by ! (exits refused h ys rt pt slab answers (many-batch-leaves h ys rt pt slab big input answers) refl refl refl refl refl refused-is)))))))))))))))))))))))))))))))))
+        by ! (exits refused h ys rt pt slab answers (many-batch-leaves h (lent ys rt pt slab) big input answers) refl refl refl refl refl refused-is)))))))))))))))))))))))))))))))))
 
     few : ltb 4096 (length ys) ≡ false → Goal
     few e =
@@ -355,7 +355,7 @@ module _ {M : Type 1} (𝓤 : URA M) (H : Heap 𝓤) (A : Atoms 𝓤) (W : Given
         rewrite ! 40 (λ (t : Bool). ‵ (fat fullShare tyBool l₁₁ 0 (vbool t))) (e) refl $
         falls ! (load ! (from ! (stop !)) (look ! 40 refl)) $
         -- the table is made, and stands as its elements from now on
-        assigns ! (rep ! 12288 (lit ! tt)) (from ! (stop !)) (init ! 46 refl (repeat-typed u32 0 (vint w32 0) zero-is 𝓤 H A W N (uint-lawful 𝓤 H A W w32))) $
+        assigns ! (rep ! N (lit ! tt)) (from ! (stop !)) (init ! 46 refl (repeat-typed u32 0 (vint w32 0) zero-is 𝓤 H A W N (uint-lawful 𝓤 H A W w32))) $
         use0 W (‵ (Array u32 N .own zeros (repeat-val N (vint w32 0) ∷ []))) (repeat-own u32 0 (vint w32 0) zero-is 𝓤 H A W N (uint-makes 𝓤 H A W w32) (uint-copy 𝓤 H A W w32)) $
         move ! (47 ∷ 0 ∷ []) $
         use2 W (‵ (here u32 N l₈ zeros)) (array-in 𝓤 H A W u32 N l₈ tt zeros (repeat-val N (vint w32 0))) $

@@ -5,7 +5,7 @@
 use mathlib.Core.Path.{_≡_, refl, ap, _∙_}
 use mathlib.Core.Bool.{Bool, true, false}
 use mathlib.Core.WellFounded.{WellFounded, InvImage·wf}
-use Prim.Native.Nat.{ℕ, _<_, _≤_, _^_, _*_, _+_, _-_, zero-le}
+use Prim.Native.Nat.{ℕ, suc, _<_, _≤_, _^_, _+_, _-_, zero-le}
 use native.Mathlib.Nat.{le-antisymm}
 use native.Mathlib.Numerals.{add-one-dec}
 use native.Mathlib.Omega.{arith}
@@ -52,7 +52,7 @@ use denote.Triple.Walked.{says, needs, Stays, stay-none-slice, stay-slice, walkO
 use denote.Exit.{yes}
 use Rattle.model.specs.declared.Branch.{Branch}
 use Rattle.model.specs.Store.{zero-branch}
-use Rattle.rows.specs.Rows.{branchRowsOf}
+use Rattle.rows.specs.Rows.{branchRowsOf, BranchesIn}
 use Rattle.rows.proofs.Laws.{branch-kind}
 use Rattle.lent.proofs.Again.{LentAgain, lends-again-at, comes-back-at}
 use Rattle.lent.proofs.Loading.{stored, length-stored, stored-all, store-step, row-within}
@@ -83,7 +83,7 @@ abbrev Put : {M : Type 1} (𝓤 : URA M) (H : Heap 𝓤) (A : Atoms 𝓤) (mem :
 Put 𝓤 H A mem run = tripleOf 𝓤 H A p.signature (p.spec 𝓤 H A mem run)
 
 module _ {M : Type 1} (𝓤 : URA M) (H : Heap 𝓤) (A : Atoms 𝓤) (W : Given 𝓤 H A) (mem : Memory → SProp 𝓤) (run : Routine → Fun 𝓤) (κ κ′ : Lft) (q q′ : Share) (b o : ℕ) (γ : GName) (ys : List Branch) (b′ o′ : ℕ) (γ′ : GName) (ls : List ℕ)
-    (room : Room T.the-row (length ys)) (room′ : Room u32 (length ls)) (within : length ys * 3 ≤ length ls) where
+    (room : Room T.the-row (length ys)) (room′ : Room u32 (length ls)) (within : BranchesIn (length ys) ls) where
   abbrev R : RattleType
   R = T.the-row
 
@@ -137,9 +137,9 @@ module _ {M : Type 1} (𝓤 : URA M) (H : Heap 𝓤) (A : Atoms 𝓤) (W : Given
   abbrev to-row : ℕ → Row 𝓤 H A mem run .Ghost
   to-row i = (((κ′, tt), (q′, tt), tt, (y, (i, tt)), (s′ ∷ [], (vint w64 i ∷ [], tt))), tt)
 
-  goes-row : (i : ℕ) → i < 2 ^ 64 → i * 3 + 2 < length ls → ent 𝓤 (sep 𝓤 (A .lft κ′ q′) (sem 𝓤 H A Flat)) (Row 𝓤 H A mem run .pre (to-row i))
-  goes-row i fits three =
-      qed W (‵ (flft κ′ q′) ∷ ‵ Flat ∷ []) ∵ says ! three $ nothing ! $ move ! (1 ∷ 0 ∷ []) $ join ! $ frame ! $
+  goes-row : (i : ℕ) → i < 2 ^ 64 → BranchesIn (suc i) ls → ent 𝓤 (sep 𝓤 (A .lft κ′ q′) (sem 𝓤 H A Flat)) (Row 𝓤 H A mem run .pre (to-row i))
+  goes-row i fits inside =
+      qed W (‵ (flft κ′ q′) ∷ ‵ Flat ∷ []) ∵ says ! inside $ nothing ! $ move ! (1 ∷ 0 ∷ []) $ join ! $ frame ! $
       nothing ! $ owned ! usize (Is usize) (uint-makes 𝓤 H A W w64) i _ (refl, fits) $ fjoin ! $ move ! (1 ∷ 0 ∷ []) $ fjoin ! $ done !
 
   got-row : (i : ℕ) (r : Branch) → ent 𝓤 (ensured 𝓤 H A g.ended (g.clauses 𝓤 H A mem run) (κ′, tt) (y, (i, tt)) tt r) (fact 𝓤 (r ≡ getD (branchRowsOf ls) i zero-branch))
@@ -223,7 +223,7 @@ module _ {M : Type 1} (𝓤 : URA M) (H : Heap 𝓤) (A : Atoms 𝓤) (W : Given
           assigns ! (agg ! (and-then ! (load ! (from ! (stop !)) (look ! 8 refl)) (and-then ! (load ! (from ! (fld ! refl (stop !))) (look-in ! 20 (sub ! 1 refl (whole !)))) (no-more !)))) (from ! (stop !)) (init ! 6 refl (tt, (tt, (record { fits = room .0 }, tt)))) $
           -- the flat slice's borrow is had twice: one is passed to `rows::branch_at`
           use1 W (‵ Flat ⊛ ‵ Flat) (shr-slice-copy 𝓤 H A W (named 1) κ′ u32 .twice y (s′ ∷ [])) $ split ! $ move ! (2 ∷ 0 ∷ []) $
-          use2 W (raw (Row 𝓤 H A mem run .pre (to-row (i .0)))) (goes-row (i .0) (fits i) (omega (arith, row-within branch-kind ys ls within (i .0) less))) $
+          use2 W (raw (Row 𝓤 H A mem run .pre (to-row (i .0)))) (goes-row (i .0) (fits i) (row-within branch-kind ys ls within (i .0) less)) $
           -- [what `branch_at` asks; Flat; Rows; the rows' token; _9; …; _8; …; _7; …; _6; …; _5; …; _4; …; _3; …; _2; …; _1; …; _0; …]
           calls-at ! (fmOf 𝓤 H (W .laws) 𝓣) (Row 𝓤 H A mem run) known-row (to-row (i .0)) (and-then ! (load ! (from ! (stop !)) (look ! 18 refl)) (and-then ! (load ! (from ! (stop !)) (look ! 16 refl)) (no-more !))) (λ w.
           use1 W (later (some (λ (r : Branch). ((‵ (flft κ′ q′) ⊛ ‵ ftrue) ⊛ ‵ (R .own r (w ∷ []))) ⊛ raw (ensured 𝓤 H A g.ended (g.clauses 𝓤 H A mem run) (κ′, tt) (y, (i .0, tt)) tt r)))) (id⊢ 𝓤 _) $ await ! tt $ pick ! (λ r.
@@ -284,7 +284,7 @@ module _ {M : Type 1} (𝓤 : URA M) (H : Heap 𝓤) (A : Atoms 𝓤) (W : Given
 module _ {M : Type 1} (𝓤 : URA M) (H : Heap 𝓤) (A : Atoms 𝓤) (W : Given 𝓤 H A) (mem : Memory → SProp 𝓤) (run : Routine → Fun 𝓤) (𝓣 : Tables 𝓤 H) (known-row : Triple 𝓤 (𝓣 .C #rows·branch-at) (Row 𝓤 H A mem run)) (known-put : Triple 𝓤 (𝓣 .C #lent·set-branch-row) (Put 𝓤 H A mem run)) where
   f-walks : Walks 𝓤 H A f.ended stayed (WpFn 𝓤 H (𝓣 .C) (𝓣 .Λ) code.function) (f.clauses 𝓤 H A mem run)
   f-walks = walked 𝓤 H A f.ended stayed (f.clauses 𝓤 H A mem run) (WpFn 𝓤 H (𝓣 .C) (𝓣 .Λ) code.function) (λ κs. (slice-vals, (slice-vals, tt))) (λ κs. (mut-slice-tells (named 0) (κs .0) T.the-row, (shr-slice-tells (named 1) (κs .1 .0) u32, tt)))
-      (λ κs qs bounds a g are. needs 𝓤 (length (a .0 .now) * 3 ≤ length (a .1 .0 .now)) _ (λ within.
+      (λ κs qs bounds a g are. needs 𝓤 (BranchesIn (length (a .0 .now)) (a .1 .0 .now)) _ (λ within.
       walk 𝓤 H A W mem run (κs .0) (κs .1 .0) (qs .0) (qs .1 .0) (a .0 .ptr .0) (a .0 .ptr .1) (a .0 .name) (a .0 .now) (a .1 .0 .ptr .0) (a .1 .0 .ptr .1) (a .1 .0 .name) (a .1 .0 .now) (are .0 .0 .1) (are .1 .0 .0 .1) within 𝓣 known-row known-put))
 
   f-meets : Meets 𝓤 H A f.signature (WpFn 𝓤 H (𝓣 .C) (𝓣 .Λ) code.function) (f.spec 𝓤 H A mem run)

@@ -1,18 +1,15 @@
 use mathlib.Core.Path.{_≡_, refl, ap, sym, _∙_}
-use Prim.Native.Nat.{ℕ, suc, _≤_, _<_, _-_, _+_}
+use Prim.Native.Nat.{_≤_, _-_}
 use mathlib.Core.Option.{some}
 use native.Mathlib.Omega.{arith}
 use borrow.Author.Needs.{needs}
 use denote.Ref.{now}
-use lib.ListN.{length, take, getD}
-use Rattle.model.specs.Store.{zero-branch}
-use Rattle.model.proofs.Ancestry.{find}
+use lib.ListN.{length, take}
+use Rattle.model.specs.ByNumber.{find, newestOf, Ascend}
 use Rattle.model.specs.declared.Branch.{Branch}
 use Rattle.model.specs.declared.Record.{Record}
 use Rattle.rows.specs.Rows.{recordRowsOf, branchRowsOf}
 use Rattle.rows.proofs.Laws.{record-count, branch-count}
-use Rattle.model.proofs.ByNumber.{newestOf}
-use Rattle.model.proofs.ByNumber.{Ascend}
 use Rattle.model.proofs.ByNumber.{asc-ascend}
 use Rattle.lookup.proofs.Laws.{bracket-of}
 use Rattle.lookup.proofs.Walk.{Span, span-start, span-less, latest-here, latest-low, latest-other, latest-end, find-not, find-end, falls-at, Held, walk-found, walk-on}
@@ -36,6 +33,33 @@ Inv-rows bt nb rt nr a when j₀ i₀ t₀ j i t =
 
 abbrev μ-rows : tie.MeasureT-rows
 μ-rows bt nb rt nr a when j₀ i₀ t₀ j i t = i
+
+abbrev rows-from-else1 : tie.Else1 Inv-recs μ-recs Inv-rows μ-rows → tie.At-rows Inv-recs μ-recs Inv-rows μ-rows
+rows-from-else1 c = c .before
+
+abbrev rows-from-then3 : tie.Then3 Inv-recs μ-recs Inv-rows μ-rows → tie.At-rows Inv-recs μ-recs Inv-rows μ-rows
+rows-from-then3 c = rows-from-else1 (c .before .before .before .before .before)
+
+abbrev rows-from-else3 : tie.Else3 Inv-recs μ-recs Inv-rows μ-rows → tie.At-rows Inv-recs μ-recs Inv-rows μ-rows
+rows-from-else3 c = rows-from-else1 (c .before .before .before .before .before)
+
+abbrev recs-from-record-at : tie.After-record-at Inv-recs μ-recs Inv-rows μ-rows → tie.At-recs Inv-recs μ-recs Inv-rows μ-rows
+recs-from-record-at c = c .before .before
+
+abbrev recs-from-else5 : tie.Else5 Inv-recs μ-recs Inv-rows μ-rows → tie.At-recs Inv-recs μ-recs Inv-rows μ-rows
+recs-from-else5 c = recs-from-record-at (c .before .before .before .before)
+
+abbrev record-at-from-else4 : tie.Else4 Inv-recs μ-recs Inv-rows μ-rows → tie.After-record-at Inv-recs μ-recs Inv-rows μ-rows
+record-at-from-else4 c = c .before .before
+
+abbrev record-at-from-then6 : tie.Then6 Inv-recs μ-recs Inv-rows μ-rows → tie.After-record-at Inv-recs μ-recs Inv-rows μ-rows
+record-at-from-then6 c = record-at-from-else4 (c .before .before .before .before .before)
+
+abbrev record-at-from-else6 : tie.Else6 Inv-recs μ-recs Inv-rows μ-rows → tie.After-record-at Inv-recs μ-recs Inv-rows μ-rows
+record-at-from-else6 c = record-at-from-else4 (c .before .before .before .before .before)
+
+abbrev start-from-else3 : tie.Else3 Inv-recs μ-recs Inv-rows μ-rows → tie.Start Inv-recs μ-recs Inv-rows μ-rows
+start-from-else3 c = (rows-from-else3 c) .before .before .before .before
 
 -- src/lib.rt:49:9
 up-to-requires : tie.Need-up-to-requires Inv-recs μ-recs Inv-rows μ-rows
@@ -93,7 +117,7 @@ rows-less-2 c = search needs
 -- src/lib.rt:52:9
 rows-again-2 : tie.Need-rows-again-2 Inv-recs μ-recs Inv-rows μ-rows
 rows-again-2 c =
-    let u = c .before .before .before .before .before .before in
+    let u = rows-from-then3 c in
     let s = u .before .before .before .before in
     let bs = branchRowsOf (now (s .args .bt)) in
     let rs = recordRowsOf (now (s .args .rt)) in (
@@ -103,10 +127,10 @@ rows-again-2 c =
           (λ z. omega (arith, z, ap (λ (b : Branch). b .end) (c .before .before .before .before .branch-at .ensures), c .if3)),
     )
 
-held : (c : tie.Else3 Inv-recs μ-recs Inv-rows μ-rows) → Held (branchRowsOf (now (c .before .before .before .before .before .before .before .before .before .before .args .bt))) (c .before .before .before .before .before .before .rows .i - 1) (c .before .before .before .before .before .before .rows .i) (c .before .before .before .before .before .before .rows .t) (c .before .before .before .before .branch-at .result)
+held : (c : tie.Else3 Inv-recs μ-recs Inv-rows μ-rows) → Held (branchRowsOf (now ((start-from-else3 c) .args .bt))) ((rows-from-else3 c) .rows .i - 1) ((rows-from-else3 c) .rows .i) ((rows-from-else3 c) .rows .t) (c .before .before .before .before .branch-at .result)
 held c =
     let q = c .before .before .before .before .branch-at .ensures in
-    let u = c .before .before .before .before .before .before in
+    let u = rows-from-else3 c in
     let s = u .before .before .before .before in
     let n : u .rows .i ≡ 0 → ⊥ = c .before .before .before .before .before .if1 .left in
     record {
@@ -120,7 +144,7 @@ held c =
 
 -- src/lib.rt:64:9
 recs-holds : tie.Need-recs-holds Inv-recs μ-recs Inv-rows μ-rows
-recs-holds c = c .before .before .before .before .before .before .rows .inv .1
+recs-holds c = (rows-from-else3 c) .rows .inv .1
 
 -- src/lib.rt:65:41
 sub-record-at : tie.Need-sub-record-at Inv-recs μ-recs Inv-rows μ-rows
@@ -141,9 +165,9 @@ recs-less c = search needs
 -- src/lib.rt:64:9
 recs-again : tie.Need-recs-again Inv-recs μ-recs Inv-rows μ-rows
 recs-again c =
-    let l = c .before .before .before .before .before .before in
+    let l = recs-from-else5 c in
     let o = l .before in
-    let u = o .before .before .before .before .before .before in
+    let u = rows-from-else3 o in
     let s = u .before .before .before .before in
     span-less (recordRowsOf (now (s .args .rt))) (s .args .nr) (s .args .a) (room s) (up s) (l .recs .j) (u .rows .t) (l .recs .inv) (c .before .before .before .before .before .recs-test .taken)
     (omega (arith, ap (λ (r : Record). r .moment) (c .before .before .before .before .record-at .ensures), c .if5))
@@ -157,7 +181,7 @@ rows-again-3 : tie.Need-rows-again-3 Inv-recs μ-recs Inv-rows μ-rows
 rows-again-3 c =
     let l = c .before in
     let o = l .before in
-    let u = o .before .before .before .before .before .before in
+    let u = rows-from-else3 o in
     let s = u .before .before .before .before in
     let rs = recordRowsOf (now (s .args .rt)) in
     let bs = branchRowsOf (now (s .args .bt)) in
@@ -173,7 +197,7 @@ rows-again-4 : tie.Need-rows-again-4 Inv-recs μ-recs Inv-rows μ-rows
 rows-again-4 c =
     let l = c .before .before .before .before in
     let o = l .before in
-    let u = o .before .before .before .before .before .before in
+    let u = rows-from-else3 o in
     let s = u .before .before .before .before in
     let rs = recordRowsOf (now (s .args .rt)) in
     let bs = branchRowsOf (now (s .args .bt)) in
@@ -188,10 +212,10 @@ rows-less-5 c = search needs
 -- src/lib.rt:52:9
 rows-again-5 : tie.Need-rows-again-5 Inv-recs μ-recs Inv-rows μ-rows
 rows-again-5 c =
-    let b = c .before .before .before .before .before .before .before in
+    let b = record-at-from-else6 c in
     let l = b .before .before in
     let o = l .before in
-    let u = o .before .before .before .before .before .before in
+    let u = rows-from-else3 o in
     let s = u .before .before .before .before in
     let rs = recordRowsOf (now (s .args .rt)) in
     let bs = branchRowsOf (now (s .args .bt)) in
@@ -211,10 +235,10 @@ returns c =
 -- src/lib.rt:43:1
 returns-2 : tie.Need-returns-2 Inv-recs μ-recs Inv-rows μ-rows
 returns-2 c =
-    let b = c .before .before .before .before .before .before .before in
+    let b = record-at-from-then6 c in
     let l = b .before .before in
     let o = l .before in
-    let u = o .before .before .before .before .before .before in
+    let u = rows-from-else3 o in
     let s = u .before .before .before .before in
     let rs = recordRowsOf (now (s .args .rt)) in
     let bs = branchRowsOf (now (s .args .bt)) in

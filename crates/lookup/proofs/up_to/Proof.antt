@@ -1,12 +1,11 @@
-use mathlib.Core.Path.{_≡_, ap, sym}
-use Prim.Native.Nat.{ℕ, suc, _≤_, _<_, _-_, _+_, _*_, _/_}
+use mathlib.Core.Path.{ap}
+use Prim.Native.Nat.{_-_, _+_, _/_}
 use native.Mathlib.Omega.{arith}
 use borrow.Author.Needs.{needs}
 use denote.Ref.{now}
-use lib.ListN.{length}
 use Rattle.model.specs.declared.Record.{Record}
 use Rattle.rows.specs.Rows.{recordRowsOf}
-use Rattle.rows.proofs.Laws.{record-count, branch-count}
+use Rattle.rows.proofs.Laws.{record-count}
 use Rattle.model.proofs.ByNumber.{asc-ascend}
 use Rattle.lookup.proofs.Laws.{Bracket, bracket-start, bracket-up, bracket-down, bracket-end}
 use Rattle.lookup.proofs.up_to.Statement.{statement}
@@ -20,6 +19,15 @@ Inv-loop rt n a t lo₀ hi₀ lo hi = Bracket (recordRowsOf rt) n a t lo hi
 
 abbrev μ-loop : tie.MeasureT-loop
 μ-loop rt n a t lo₀ hi₀ lo hi = hi - lo
+
+abbrev record-at-from-struct-known : tie.After-struct-known Inv-loop μ-loop → tie.After-record-at Inv-loop μ-loop
+record-at-from-struct-known c = c .before
+
+abbrev record-at-from-then3 : tie.Then3 Inv-loop μ-loop → tie.After-record-at Inv-loop μ-loop
+record-at-from-then3 c = record-at-from-struct-known (c .before .before .before .before .before)
+
+abbrev record-at-from-else3 : tie.Else3 Inv-loop μ-loop → tie.After-record-at Inv-loop μ-loop
+record-at-from-else3 c = record-at-from-struct-known (c .before .before .before .before .before)
 
 -- src/lib.rt:26:5
 loop-holds : tie.Need-loop-holds Inv-loop μ-loop
@@ -77,7 +85,7 @@ loop-less-3 c = search needs
 -- src/lib.rt:26:5
 loop-again-3 : tie.Need-loop-again-3 Inv-loop μ-loop
 loop-again-3 c =
-    let b = c .before .before .before .before .before .before in
+    let b = record-at-from-then3 c in
     let l = b .before .before in
     let s = l .before .before in
     let rt = now (s .args .rt) in
@@ -97,7 +105,7 @@ loop-less-4 c = search needs
 -- src/lib.rt:26:5
 loop-again-4 : tie.Need-loop-again-4 Inv-loop μ-loop
 loop-again-4 c =
-    let b = c .before .before .before .before .before .before in
+    let b = record-at-from-else3 c in
     let l = b .before .before in
     let s = l .before .before in
     let rt = now (s .args .rt) in

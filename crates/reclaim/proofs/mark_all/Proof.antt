@@ -1,33 +1,60 @@
+-- `reclaim::mark_all` meets its contract: the moments that decide are listed once, and both marks are by that list.
+use mathlib.Core.Path.{sym, _∙_}
+use Prim.Native.Nat.{_≤_}
 use native.Mathlib.Omega.{arith}
 use borrow.Author.Needs.{needs}
+use denote.Ref.{now}
+use lib.ListN.{length}
+use lib.Seq.{length-take-le}
+use Rattle.rows.specs.Rows.{branchRowsOf, recordRowsOf}
+use Rattle.rows.proofs.Laws.{branch-count}
+use Rattle.deciding.proofs.Keeping.{deciding-held, kept-branches, kept-young, kept-all}
 use Rattle.reclaim.proofs.mark_all.Statement.{statement}
 use Rattle.reclaim.proofs.mark_all.Tie as tie
 
-numbers-requires : tie.Need-numbers-requires
-numbers-requires c κs = search needs
+-- the start, the list of moments, and the marks of the branches
+abbrev start : tie.After-deciding → tie.Start
+start d = d .before .before .before .before .before .before .before
 
-slice-aggregate-parents : tie.Need-slice-aggregate-parents
-slice-aggregate-parents c = search needs
+abbrev listed : tie.After-mark-branches → tie.After-deciding
+listed c = c .before .before .before .before
 
-parents-requires : tie.Need-parents-requires
-parents-requires c κs = search needs
+abbrev tested : tie.After-mark-records-arg → tie.After-none-older
+tested c = c .before .before .before
+
+abbrev branches-marked : tie.After-none-older → tie.After-mark-branches
+branches-marked c = c .before .before .before
+
+-- the table has the rows
+rows : (s : tie.Start) → s .args .n ≤ length (branchRowsOf (now (s .args .bt)))
+rows s = omega (arith, branch-count (now (s .args .bt)), s .pre .0)
+
+moments-requires : tie.Need-moments-requires
+moments-requires c κs = search needs
+
+slice-aggregate-deciding : tie.Need-slice-aggregate-deciding
+slice-aggregate-deciding c = search needs
+
+deciding-requires : tie.Need-deciding-requires
+deciding-requires c κs = search needs
+
+array-share-prefix-table : tie.Need-array-share-prefix-table
+array-share-prefix-table c = search needs
 
 slice-aggregate-mark-branches : tie.Need-slice-aggregate-mark-branches
-slice-aggregate-mark-branches c = search needs
+slice-aggregate-mark-branches c = let d = c .before .before in sym (length-take-le (d .deciding .result) (d .deciding .last .1 .1 .1 .0) (d .deciding .ensures .within))
 
 mark-branches-requires : tie.Need-mark-branches-requires
-mark-branches-requires c κs = search needs
+mark-branches-requires c κs =
+    let d = c .before .before .before in
+    let s = start d in
+    ((s .pre .0 .0, s .pre .0 .2, s .pre .0 .4), (s .pre .1 .0, deciding-held (s .pre .1 .0) (rows s) (s .pre .1 .1 .0) (d .deciding .ensures)))
 
-slice-aggregate-mark-records : tie.Need-slice-aggregate-mark-records
-slice-aggregate-mark-records c = search needs
+none-older-requires : tie.Need-none-older-requires
+none-older-requires c κs = search needs
 
-mark-records-requires : tie.Need-mark-records-requires
-mark-records-requires c κs =
-    let s = c .before .before .before .before .before .before .before .before .before .before .before .before .before .before .before in
-    let f = c .before .before .before .before .before .before .before .before .parents .ensures in (
-      (s .pre .0 .0, s .pre .0 .1, omega (arith, f .long, c .before .before .before .before .before .before .before .before .before .before .numbers .ensures .long, s .pre .0), s .pre .0 .2, s .pre .0 .3, s .pre .0 .5),
-      (s .pre .1 .0, (record { at = f .first }, (s .pre .1 .1 .0, s .pre .1 .1 .1))),
-    )
+keep-young-requires : tie.Need-keep-young-requires
+keep-young-requires c κs = search needs
 
 same-length : tie.Need-same-length
 same-length c = search needs
@@ -36,19 +63,68 @@ same-length-2 : tie.Need-same-length-2
 same-length-2 c = search needs
 
 returns : tie.Need-returns
-returns c = search needs
+returns c =
+    let t = c .before .before .before .before .before in
+    let b = branches-marked t in
+    let d = listed b in
+    let s = start d in (
+      kept-branches (d .deciding .ensures) (b .mark-branches .ensures),
+      kept-young (branchRowsOf (now (s .args .bt))) (s .args .n) (recordRowsOf (now (s .args .rt))) (s .args .floor) (sym (t .none-older .ensures) ∙ c .before .before .before .before .if1 .taken) (c .before .before .keep-young .ensures),
+    )
+
+array-share-prefix-table-2 : tie.Need-array-share-prefix-table-2
+array-share-prefix-table-2 c = search needs
+
+slice-aggregate-mark-records : tie.Need-slice-aggregate-mark-records
+slice-aggregate-mark-records c = let d = listed (branches-marked (c .before .before)) in sym (length-take-le (d .deciding .result) (d .deciding .last .1 .1 .1 .0) (d .deciding .ensures .within))
+
+mark-records-requires : tie.Need-mark-records-requires
+mark-records-requires c κs =
+    let d = listed (branches-marked (tested c)) in
+    let s = start d in
+    let e = d .deciding .ensures in
+    let p = s .pre .0 in
+    let q = s .pre .1 in (
+      (p .0, p .1, p .2, omega (arith, length-take-le (d .deciding .result) (d .deciding .last .1 .1 .1 .0) (e .within), e .few, p .1), p .3, p .5),
+      (q .0, (deciding-held (q .0) (rows s) (q .1 .0) e, (q .1 .1 .0, q .1 .1 .1))),
+    )
+
+keep-young-requires-2 : tie.Need-keep-young-requires-2
+keep-young-requires-2 c κs = search needs
+
+same-length-3 : tie.Need-same-length-3
+same-length-3 c = search needs
+
+same-length-4 : tie.Need-same-length-4
+same-length-4 c = search needs
+
+returns-2 : tie.Need-returns-2
+returns-2 c =
+    let r = c .before .before .before .before .before .before in
+    let b = branches-marked (tested (r .before)) in
+    let d = listed b in
+    let e = d .deciding .ensures in
+    (kept-branches e (b .mark-branches .ensures), kept-all (recordRowsOf (now (start d .args .rt))) e (r .mark-records .ensures) (c .before .before .keep-young2 .ensures))
 
 pub mark-all-spec : {M : Type 1} → statement M
 mark-all-spec =
     tie.close
     (tie.spec
-    numbers-requires
-    slice-aggregate-parents
-    parents-requires
+    moments-requires
+    slice-aggregate-deciding
+    deciding-requires
+    array-share-prefix-table
     slice-aggregate-mark-branches
     mark-branches-requires
-    slice-aggregate-mark-records
-    mark-records-requires
+    none-older-requires
+    keep-young-requires
     same-length
     same-length-2
-    returns)
+    returns
+    array-share-prefix-table-2
+    slice-aggregate-mark-records
+    mark-records-requires
+    keep-young-requires-2
+    same-length-3
+    same-length-4
+    returns-2)

@@ -1,33 +1,141 @@
 use native.Mathlib.Omega.{arith}
 use denote.Ref.{now}
-use Rattle.reclaim.proofs.Tables.{Ready, ready-of, reclaims, refuses-8, refuses-9}
+use Rattle.reclaim.proofs.Reclaims.{Ready, ready-of, lent, reclaims, refuses-8, refuses-9}
 use Rattle.closing.proofs.Closing.{count-branches, count-records}
 use borrow.Author.Needs.{needs}
 use Rattle.reclaim.proofs.reclaim.Statement.{statement}
 use Rattle.reclaim.proofs.reclaim.Tie as tie
 
+abbrev start-from-slice-known : tie.After-slice-known → tie.Start
+start-from-slice-known c = c .before
+
+abbrev start-from-refused : tie.After-refused → tie.Start
+start-from-refused c = start-from-slice-known (c .before .before .before .before .before)
+
+abbrev start-from-slice-known2 : tie.After-slice-known2 → tie.Start
+start-from-slice-known2 c = c .before .before
+
+abbrev start-from-else2 : tie.Else2 → tie.Start
+start-from-else2 c = start-from-slice-known2 (c .before .before .before .before .before)
+
+abbrev start-from-slice-known3 : tie.After-slice-known3 → tie.Start
+start-from-slice-known3 c = c .before .before .before
+
+abbrev start-from-refused2 : tie.After-refused2 → tie.Start
+start-from-refused2 c = start-from-slice-known3 (c .before .before .before .before .before)
+
+abbrev else2-from-branch-bytes : tie.After-branch-bytes → tie.Else2
+else2-from-branch-bytes c = c .before .before .before
+
+abbrev else2-from-rm : tie.After-rm → tie.Else2
+else2-from-rm c = else2-from-branch-bytes (c .before .before .before .before .before)
+
+abbrev close-records-from-slice-known5 : tie.After-slice-known5 → tie.After-close-records
+close-records-from-slice-known5 c = c .before .before .before .before
+
+abbrev close-records-from-slice-known6 : tie.After-slice-known6 → tie.After-close-records
+close-records-from-slice-known6 c = close-records-from-slice-known5 (c .before .before .before .before .before)
+
+abbrev record-bytes-from-mark-all : tie.After-mark-all → tie.After-record-bytes
+record-bytes-from-mark-all c = c .before .before .before .before .before
+
+abbrev record-bytes-from-rm3 : tie.After-rm3 → tie.After-record-bytes
+record-bytes-from-rm3 c = record-bytes-from-mark-all (c .before .before .before .before .before)
+
+abbrev mark-all-from-rm2 : tie.After-rm2 → tie.After-mark-all
+mark-all-from-rm2 c = c .before .before
+
+abbrev mark-all-from-rt : tie.After-rt → tie.After-mark-all
+mark-all-from-rt c = mark-all-from-rm2 (c .before .before .before .before .before)
+
+abbrev mark-all-from-bm3 : tie.After-bm3 → tie.After-mark-all
+mark-all-from-bm3 c = mark-all-from-rt (c .before .before .before .before .before)
+
+abbrev else2-from-mark-all : tie.After-mark-all → tie.Else2
+else2-from-mark-all c = else2-from-rm (c .before)
+
+abbrev else2-from-rm3 : tie.After-rm3 → tie.Else2
+else2-from-rm3 c = else2-from-mark-all (c .before .before .before .before .before)
+
+abbrev mark-all-from-slice-known6 : tie.After-slice-known6 → tie.After-mark-all
+mark-all-from-slice-known6 c = mark-all-from-bm3 (c .before .before .before)
+
+abbrev branch-bytes-from-mark-all-arg2 : tie.After-mark-all-arg2 → tie.After-branch-bytes
+branch-bytes-from-mark-all-arg2 c = c .before .before .before
+
+abbrev branch-bytes-from-rm2 : tie.After-rm2 → tie.After-branch-bytes
+branch-bytes-from-rm2 c = branch-bytes-from-mark-all-arg2 (c .before .before .before .before .before)
+
+abbrev branch-bytes-from-rt : tie.After-rt → tie.After-branch-bytes
+branch-bytes-from-rt c = branch-bytes-from-rm2 (c .before .before .before .before .before)
+
+abbrev branch-bytes-from-bm3 : tie.After-bm3 → tie.After-branch-bytes
+branch-bytes-from-bm3 c = branch-bytes-from-rt (c .before .before .before .before .before)
+
+abbrev else2-from-rt : tie.After-rt → tie.Else2
+else2-from-rt c = else2-from-rm3 (c .before .before)
+
+abbrev else2-from-bm3 : tie.After-bm3 → tie.Else2
+else2-from-bm3 c = else2-from-rt (c .before .before .before .before .before)
+
+abbrev else2-from-slice-known6 : tie.After-slice-known6 → tie.Else2
+else2-from-slice-known6 c = else2-from-bm3 (c .before .before .before)
+
+abbrev else1-from-struct-known2 : tie.After-struct-known2 → tie.Else1
+else1-from-struct-known2 c = c .before
+
+abbrev else1-from-record-bytes : tie.After-record-bytes → tie.Else1
+else1-from-record-bytes c = else1-from-struct-known2 (c .before .before .before .before .before)
+
+abbrev else1-from-mark-all : tie.After-mark-all → tie.Else1
+else1-from-mark-all c = else1-from-record-bytes (c .before .before .before .before .before)
+
+abbrev else1-from-rm3 : tie.After-rm3 → tie.Else1
+else1-from-rm3 c = else1-from-mark-all (c .before .before .before .before .before)
+
+abbrev else1-from-slice-known5 : tie.After-slice-known5 → tie.Else1
+else1-from-slice-known5 c = else1-from-rm3 (c .before .before .before .before .before)
+
+abbrev else1-from-slice-known6 : tie.After-slice-known6 → tie.Else1
+else1-from-slice-known6 c = else1-from-slice-known5 (c .before .before .before .before .before)
+
+abbrev start-from-record-bytes : tie.After-record-bytes → tie.Start
+start-from-record-bytes c = start-from-else2 (c .before .before .before .before)
+
+abbrev start-from-mark-all : tie.After-mark-all → tie.Start
+start-from-mark-all c = start-from-record-bytes (c .before .before .before .before .before)
+
+abbrev start-from-rm3 : tie.After-rm3 → tie.Start
+start-from-rm3 c = start-from-mark-all (c .before .before .before .before .before)
+
+abbrev start-from-slice-known5 : tie.After-slice-known5 → tie.Start
+start-from-slice-known5 c = start-from-rm3 (c .before .before .before .before .before)
+
+abbrev start-from-slice-known6 : tie.After-slice-known6 → tie.Start
+start-from-slice-known6 c = start-from-slice-known5 (c .before .before .before .before .before)
+
 -- what is at hand where the moment is readable
-ready : (c : tie.Else2) → Ready (c .before .before .before .before .before .before .before .args .head) (c .before .before .before .before .before .before .before .args .floor) (now (c .before .before .before .before .before .before .before .args .bt)) (now (c .before .before .before .before .before .before .before .args .rt)) (now (c .before .before .before .before .before .before .before .args .pt))
+ready : (c : tie.Else2) → Ready ((start-from-else2 c) .args .head) ((start-from-else2 c) .args .floor) (now ((start-from-else2 c) .args .bt)) (now ((start-from-else2 c) .args .rt)) (now ((start-from-else2 c) .args .pt))
 ready c =
-    let s = c .before .before .before .before .before .before .before in
-    ready-of (s .args .head) (now (s .args .bt)) (now (s .args .rt)) (now (s .args .pt)) (s .pre .slab) (s .args .floor) (s .pre .sound) (omega (arith, c .before .before .if1 .left)) (omega (arith, c .if2 .left))
+    let s = (start-from-else2 c) in
+    ready-of (s .args .head) (lent (now (s .args .bt)) (now (s .args .rt)) (now (s .args .pt)) (s .pre .others)) (s .args .floor) (s .pre .sound) (omega (arith, c .before .before .if1 .left)) (omega (arith, c .if2 .left))
 
 refused-requires : tie.Need-refused-requires
 refused-requires c κs = search needs
 
 returns : tie.Need-returns
 returns c =
-    let s = c .before .before .before .before .before .before in
-    rw (c .refused .ensures) (refuses-8 (s .args .head) (now (s .args .bt)) (now (s .args .rt)) (now (s .args .pt)) (s .args .floor) (omega (arith, c .before .if1 .taken)))
+    let s = (start-from-refused c) in
+    λ t. rw (c .refused .ensures) (refuses-8 (s .args .head) (lent (now (s .args .bt)) (now (s .args .rt)) (now (s .args .pt)) t) (s .args .floor) (omega (arith, c .before .if1 .taken)))
 
 refused-requires-2 : tie.Need-refused-requires-2
 refused-requires-2 c κs = search needs
 
 returns-2 : tie.Need-returns-2
 returns-2 c =
-    let s = c .before .before .before .before .before .before .before .before in
-    rw (c .refused2 .ensures)
-    (refuses-9 (s .args .head) (now (s .args .bt)) (now (s .args .rt)) (now (s .args .pt)) (s .args .floor) (omega (arith, c .before .before .before .if1 .left)) (omega (arith, c .before .if2 .taken)))
+    let s = (start-from-refused2 c) in
+    λ t. rw (c .refused2 .ensures)
+    (refuses-9 (s .args .head) (lent (now (s .args .bt)) (now (s .args .rt)) (now (s .args .pt)) t) (s .args .floor) (omega (arith, c .before .before .before .if1 .left)) (omega (arith, c .before .if2 .taken)))
 
 cast-n : tie.Need-cast-n
 cast-n c = search needs
@@ -49,9 +157,9 @@ slice-aggregate-mark-all-2 c = search needs
 
 mark-all-requires : tie.Need-mark-all-requires
 mark-all-requires c κs =
-    let r = ready (c .before .before .before .before .before .before .before .before) in (
-      (r .branch-room, r .branch-count, r .record-count, r .record-room, omega (arith, r .branch-count, c .before .before .before .before .before .branch-bytes .ensures .long), omega (arith, r .record-count, c .before .before .before .before .record-bytes .ensures .long)),
-      (r .line, (r .readable, r .ascend)),
+    let r = ready (else2-from-rm c) in (
+      (r .branch-room, r .branch-count, r .branch-some, r .record-room, omega (arith, r .branch-count, c .before .before .before .before .before .branch-bytes .ensures .long), omega (arith, r .record-count, c .before .before .before .before .record-bytes .ensures .long)),
+      (r .line, (r .readable, (r .ascend, r .placed))),
     )
 
 slice-aggregate-close-records : tie.Need-slice-aggregate-close-records
@@ -59,33 +167,33 @@ slice-aggregate-close-records c = search needs
 
 close-records-requires : tie.Need-close-records-requires
 close-records-requires c κs =
-    let r = ready (c .before .before .before .before .before .before .before .before .before .before .before .before .before .before) in
-    ((r .record-count, r .record-room, omega (arith, r .record-count, c .before .before .before .before .before .mark-all .ensures .1 .long, c .before .before .before .before .before .before .before .before .before .before .record-bytes .ensures .long)), r .names)
+    let r = ready (else2-from-rm3 c) in
+    ((omega (arith, r .record-count), r .record-room, omega (arith, r .record-count, c .before .before .before .before .before .mark-all .ensures .1 .long, (record-bytes-from-rm3 c) .record-bytes .ensures .long)), r .names)
 
 slice-aggregate-close-branches : tie.Need-slice-aggregate-close-branches
 slice-aggregate-close-branches c = search needs
 
 close-branches-requires : tie.Need-close-branches-requires
 close-branches-requires c κs =
-    let r = ready (c .before .before .before .before .before .before .before .before .before .before .before .before .before .before .before .before .before .before .before .before .before) in
-    (r .branch-room, omega (arith, r .branch-count, c .before .before .before .before .before .before .before .before .before .before .before .before .mark-all .ensures .0 .long, c .before .before .before .before .before .before .before .before .before .before .before .before .before .before .before .before .before .before .branch-bytes .ensures .long))
+    let r = ready (else2-from-bm3 c) in
+    (r .branch-room, omega (arith, r .branch-count, (mark-all-from-bm3 c) .mark-all .ensures .0 .long, (branch-bytes-from-bm3 c) .branch-bytes .ensures .long))
 
 cast-t35 : tie.Need-cast-t35
 cast-t35 c =
-    let r = ready (c .before .before .before .before .before .before .before .before .before .before .before .before .before .before .before .before .before .before .before .before .before .before .before .before) in
+    let r = ready (else2-from-slice-known6 c) in
     let cb = c .before .before .close-branches .ensures in
     omega (arith, count-branches cb (r .branch-room), r .branch-count)
 
 cast-t36 : tie.Need-cast-t36
 cast-t36 c =
-    let r = ready (c .before .before .before .before .before .before .before .before .before .before .before .before .before .before .before .before .before .before .before .before .before .before .before .before) in
-    let cr = c .before .before .before .before .before .before .before .before .before .close-records .ensures in
+    let r = ready (else2-from-slice-known6 c) in
+    let cr = (close-records-from-slice-known6 c) .close-records .ensures in
     omega (arith, count-records cr (r .record-room), r .record-count)
 
 sub-t37 : tie.Need-sub-t37
 sub-t37 c =
-    let r = ready (c .before .before .before .before .before .before .before .before .before .before .before .before .before .before .before .before .before .before .before .before .before .before .before .before) in
-    let cr = c .before .before .before .before .before .before .before .before .before .close-records .ensures in
+    let r = ready (else2-from-slice-known6 c) in
+    let cr = (close-records-from-slice-known6 c) .close-records .ensures in
     omega (arith, count-records cr (r .record-room), r .record-count)
 
 cast-t35-2 : tie.Need-cast-t35-2
@@ -103,10 +211,10 @@ same-length-3 c = search needs
 returns-3 : tie.Need-returns-3
 returns-3 c =
     let cb = c .before .before .close-branches .ensures in
-    let cr = c .before .before .before .before .before .before .before .before .before .close-records .ensures in
-    let s = c .before .before .before .before .before .before .before .before .before .before .before .before .before .before .before .before .before .before .before .before .before .before .before .before .before .before .before .before .before .before .before in
-    let m = c .before .before .before .before .before .before .before .before .before .before .before .before .before .before .before .mark-all .ensures in
-    reclaims (s .args .head) (now (s .args .bt)) (now (s .args .rt)) (now (s .args .pt)) _ _ _ (s .args .floor) _ _ (s .pre) (omega (arith, c .before .before .before .before .before .before .before .before .before .before .before .before .before .before .before .before .before .before .before .before .before .before .before .before .before .before .if1 .left)) (omega (arith, c .before .before .before .before .before .before .before .before .before .before .before .before .before .before .before .before .before .before .before .before .before .before .before .before .if2 .left)) (m .0) (m .1) cr cb
+    let cr = (close-records-from-slice-known6 c) .close-records .ensures in
+    let s = (start-from-slice-known6 c) in
+    let m = (mark-all-from-slice-known6 c) .mark-all .ensures in
+    reclaims (s .args .head) (now (s .args .bt)) (now (s .args .rt)) (now (s .args .pt)) _ _ _ (s .args .floor) _ _ (s .pre) (omega (arith, (else1-from-slice-known6 c) .if1 .left)) (omega (arith, (else2-from-slice-known6 c) .if2 .left)) (m .0) (m .1) cr ((close-records-from-slice-known6 c) .close-records .kept .0) cb (c .before .before .close-branches .kept .0)
 
 pub reclaim-spec : {M : Type 1} → statement M
 reclaim-spec =

@@ -9,6 +9,7 @@ use Rattle.rows.specs.Rows.{branchRowsOf}
 use Rattle.rows.proofs.Laws.{branch-count}
 use Rattle.soundness.proofs.Tests.{refused}
 use Rattle.soundness.proofs.Branches.{same, Passes, first→, →first, passes-at, sound-passes, sound-open, passes-sound}
+use Rattle.rows.specs.View.{withBranches}
 use Rattle.soundness.proofs.branches_sound.Statement.{statement}
 use Rattle.soundness.proofs.branches_sound.Tie as tie
 
@@ -17,6 +18,39 @@ Inv-loop head bt n i₀ i = (1 ≤ i) × (i ≤ head .branches) × Passes (head 
 
 abbrev μ-loop : tie.MeasureT-loop
 μ-loop head bt n i₀ i = head .branches - i
+
+abbrev after-loop-from-branch-at2 : tie.After-branch-at2 Inv-loop μ-loop → tie.After-loop Inv-loop μ-loop
+after-loop-from-branch-at2 c = c .before
+
+abbrev after-loop-from-else5 : tie.Else5 Inv-loop μ-loop → tie.After-loop Inv-loop μ-loop
+after-loop-from-else5 c = after-loop-from-branch-at2 (c .before .before .before .before .before)
+
+abbrev start-from-struct-known : tie.After-struct-known Inv-loop μ-loop → tie.Start Inv-loop μ-loop
+start-from-struct-known c = c .before .before
+
+abbrev start-from-then2 : tie.Then2 Inv-loop μ-loop → tie.Start Inv-loop μ-loop
+start-from-then2 c = start-from-struct-known (c .before .before .before .before .before)
+
+abbrev start-from-else2 : tie.Else2 Inv-loop μ-loop → tie.Start Inv-loop μ-loop
+start-from-else2 c = start-from-struct-known (c .before .before .before .before .before)
+
+abbrev start-from-in-loop : tie.In-loop Inv-loop μ-loop → tie.Start Inv-loop μ-loop
+start-from-in-loop c = start-from-else2 (c .before .before)
+
+abbrev start-from-then3 : tie.Then3 Inv-loop μ-loop → tie.Start Inv-loop μ-loop
+start-from-then3 c = start-from-in-loop (c .before .before)
+
+abbrev start-from-else3 : tie.Else3 Inv-loop μ-loop → tie.Start Inv-loop μ-loop
+start-from-else3 c = start-from-in-loop (c .before .before)
+
+abbrev start-from-then4 : tie.Then4 Inv-loop μ-loop → tie.Start Inv-loop μ-loop
+start-from-then4 c = start-from-else2 ((after-loop-from-branch-at2 (c .before .before)) .before .before)
+
+abbrev start-from-then5 : tie.Then5 Inv-loop μ-loop → tie.Start Inv-loop μ-loop
+start-from-then5 c = start-from-else2 ((after-loop-from-branch-at2 (c .before .before .before .before .before)) .before .before)
+
+abbrev start-from-else5 : tie.Else5 Inv-loop μ-loop → tie.Start Inv-loop μ-loop
+start-from-else5 c = start-from-else2 ((after-loop-from-else5 c) .before .before)
 
 cast-n : tie.Need-cast-n Inv-loop μ-loop
 cast-n c = search needs
@@ -28,38 +62,38 @@ returns : tie.Need-returns Inv-loop μ-loop
 returns c =
     let s = c .before .before .before .before .before in
     let bt = now (s .args .bt) in
-    λ rt pt slab. refused (λ z. omega (arith, first→ (s .args .head .floor) (branchRowsOf bt) (omega (arith, branch-count bt, s .pre)) (passes-at (s .args .head .floor) (branchRowsOf bt) (s .args .head .branches) 1 (omega (arith, branch-count bt, s .pre)) (sound-passes (s .args .head) bt rt pt slab (s .pre .0) (s .pre .1) z) (omega arith) (s .pre .0)), same (c .before .before .branch-at .ensures)))
+    λ t. refused (λ z. omega (arith, first→ (s .args .head .floor) (branchRowsOf bt) (omega (arith, branch-count bt, s .pre)) (passes-at (s .args .head .floor) (branchRowsOf bt) (s .args .head .branches) 1 (omega (arith, branch-count bt, s .pre)) (sound-passes (s .args .head) (withBranches bt t) (s .pre .0) (s .pre .1) z) (omega arith) (s .pre .0)), same (c .before .before .branch-at .ensures)))
 
 returns-2 : tie.Need-returns-2 Inv-loop μ-loop
 returns-2 c =
-    let s = c .before .before .before .before .before .before .before in
+    let s = start-from-then2 c in
     let bt = now (s .args .bt) in
-    λ rt pt slab. refused (λ z. omega (arith, first→ (s .args .head .floor) (branchRowsOf bt) (omega (arith, branch-count bt, s .pre)) (passes-at (s .args .head .floor) (branchRowsOf bt) (s .args .head .branches) 1 (omega (arith, branch-count bt, s .pre)) (sound-passes (s .args .head) bt rt pt slab (s .pre .0) (s .pre .1) z) (omega arith) (s .pre .0)), same (c .before .before .before .before .branch-at .ensures)))
+    λ t. refused (λ z. omega (arith, first→ (s .args .head .floor) (branchRowsOf bt) (omega (arith, branch-count bt, s .pre)) (passes-at (s .args .head .floor) (branchRowsOf bt) (s .args .head .branches) 1 (omega (arith, branch-count bt, s .pre)) (sound-passes (s .args .head) (withBranches bt t) (s .pre .0) (s .pre .1) z) (omega arith) (s .pre .0)), same (c .before .before .before .before .branch-at .ensures)))
 
 loop-holds : tie.Need-loop-holds Inv-loop μ-loop
 loop-holds c =
-    let s = c .before .before .before .before .before .before .before in
+    let s = start-from-else2 c in
     let bt = now (s .args .bt) in
     let q = same (c .before .before .before .before .branch-at .ensures) in
     (omega arith, omega (arith, s .pre), →first (s .args .head .floor) (branchRowsOf bt) (omega (arith, branch-count bt, s .pre)) (record { start = omega arith; cut = omega arith; ordered = omega arith }))
 
 linked-requires : tie.Need-linked-requires Inv-loop μ-loop
 linked-requires c κs =
-    let s = c .before .before .before .before .before .before .before .before .before in
+    let s = start-from-in-loop c in
     let bt = now (s .args .bt) in
     (omega (arith, s .pre), c .before .loop .inv .2)
 
 returns-3 : tie.Need-returns-3 Inv-loop μ-loop
 returns-3 c =
-    let s = c .before .before .before .before .before .before .before .before .before .before .before in
+    let s = start-from-then3 c in
     let bt = now (s .args .bt) in
     let i = c .before .before .before .loop .i in
-    λ rt pt slab.
+    λ t.
     refused
     (λ z.
     false≢true
     (sym (not-true _ (c .if3 .taken))
-    ∙ (c .before .linked .ensures ∙ passes-at (s .args .head .floor) (branchRowsOf bt) (s .args .head .branches) (suc i) (omega (arith, branch-count bt, s .pre)) (sound-passes (s .args .head) bt rt pt slab (s .pre .0) (s .pre .1) z) (omega arith) (omega arith))))
+    ∙ (c .before .linked .ensures ∙ passes-at (s .args .head .floor) (branchRowsOf bt) (s .args .head .branches) (suc i) (omega (arith, branch-count bt, s .pre)) (sound-passes (s .args .head) (withBranches bt t) (s .pre .0) (s .pre .1) z) (omega arith) (omega arith))))
 
 add-i : tie.Need-add-i Inv-loop μ-loop
 add-i c = search needs
@@ -69,7 +103,7 @@ loop-less c = search needs
 
 loop-again : tie.Need-loop-again Inv-loop μ-loop
 loop-again c =
-    let s = c .before .before .before .before .before .before .before .before .before .before .before in
+    let s = start-from-else3 c in
     let bt = now (s .args .bt) in
     let i = c .before .before .before .loop .i in
     let e : suc i ≡ i + 1 = omega arith in
@@ -83,23 +117,23 @@ branch-at-requires-2 c κs = search needs
 
 returns-4 : tie.Need-returns-4 Inv-loop μ-loop
 returns-4 c =
-    let s = c .before .before .before .before .before .before .before .before .before .before .before .before in
+    let s = start-from-then4 c in
     let bt = now (s .args .bt) in
-    λ rt pt slab. refused (λ z. omega (arith, sound-open (s .args .head) bt rt pt slab (s .pre .0) (s .pre .1) z, same (c .before .before .branch-at2 .ensures)))
+    λ t. refused (λ z. omega (arith, sound-open (s .args .head) (withBranches bt t) (s .pre .0) (s .pre .1) z, same (c .before .before .branch-at2 .ensures)))
 
 returns-5 : tie.Need-returns-5 Inv-loop μ-loop
 returns-5 c =
-    let s = c .before .before .before .before .before .before .before .before .before .before .before .before .before .before .before in
+    let s = start-from-then5 c in
     let bt = now (s .args .bt) in
-    λ rt pt slab. refused (λ z. omega (arith, sound-open (s .args .head) bt rt pt slab (s .pre .0) (s .pre .1) z, same (c .before .before .before .before .before .branch-at2 .ensures)))
+    λ t. refused (λ z. omega (arith, sound-open (s .args .head) (withBranches bt t) (s .pre .0) (s .pre .1) z, same (c .before .before .before .before .before .branch-at2 .ensures)))
 
 returns-6 : tie.Need-returns-6 Inv-loop μ-loop
 returns-6 c =
-    let s = c .before .before .before .before .before .before .before .before .before .before .before .before .before .before .before in
+    let s = start-from-else5 c in
     let bt = now (s .args .bt) in
-    let l = c .before .before .before .before .before .before .before in
-    let e : l .loop .i ≡ s .args .head .branches = omega (arith, c .before .before .before .before .before .before) in
-    λ rt pt slab. sym (passes-sound (s .args .head) bt rt pt slab (s .pre .0) (s .pre .1) (subst (Passes (s .args .head .floor) (branchRowsOf bt)) e (l .loop .inv .2)) (omega (arith, same (c .before .before .before .before .before .branch-at2 .ensures))))
+    let l = (after-loop-from-else5 c) .before in
+    let e : l .loop .i ≡ s .args .head .branches = omega (arith, (after-loop-from-else5 c)) in
+    λ t. sym (passes-sound (s .args .head) (withBranches bt t) (s .pre .0) (s .pre .1) (subst (Passes (s .args .head .floor) (branchRowsOf bt)) e (l .loop .inv .2)) (omega (arith, same (c .before .before .before .before .before .branch-at2 .ensures))))
 
 pub branches-sound-spec : {M : Type 1} → statement M
 branches-sound-spec =

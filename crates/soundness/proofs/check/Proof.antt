@@ -3,11 +3,10 @@ use mathlib.Core.Bool.{true, _&&_}
 use native.Mathlib.Omega.{arith}
 use borrow.Author.Tests.{not-true, not-false}
 use denote.Ref.{now}
-use lib.ListN.{length}
 use Rattle.model.specs.Store.{Store}
 use Rattle.model.specs.Soundness.{inRange, branchesSound}
-use Rattle.rows.specs.View.{storeOf}
-use Rattle.soundness.specs.Check.{wholeRows}
+use Rattle.rows.specs.View.{storeOf, Tables, tables}
+use Rattle.soundness.specs.Check.{wholeTables}
 use Rattle.soundness.proofs.Sizes.{Ranges, ranges→}
 use Rattle.soundness.proofs.Branches.{sound-stairs}
 use Rattle.soundness.proofs.Checked.{check-one, check-two, check-three, check-none}
@@ -15,32 +14,44 @@ use borrow.Author.Needs.{needs}
 use Rattle.soundness.proofs.check.Statement.{statement}
 use Rattle.soundness.proofs.check.Tie as tie
 
+abbrev start-from-shared-slice-known : tie.After-shared-slice-known → tie.Start
+start-from-shared-slice-known c = c .before
+
+abbrev start-from-then1 : tie.Then1 → tie.Start
+start-from-then1 c = start-from-shared-slice-known (c .before .before .before .before .before)
+
+abbrev start-from-else1 : tie.Else1 → tie.Start
+start-from-else1 c = start-from-shared-slice-known (c .before .before .before .before .before)
+
 -- what is known once check 1 has passed, and once check 2 has
 abbrev start : tie.Else1 → tie.Start
-start c = c .before .before .before .before .before .before
+start c = (start-from-else1 c)
+
+abbrev lent : tie.Start → Tables
+lent s = tables (now (s .args .bt)) (now (s .args .rt)) (now (s .args .pt)) (now (s .args .slab))
 
 abbrev store : tie.Start → Store
-store s = storeOf (s .args .head) (now (s .args .bt)) (now (s .args .rt)) (now (s .args .pt)) (now (s .args .slab))
+store s = storeOf (s .args .head) (lent s)
 
-in-ranges : (c : tie.Else1) → (wholeRows (length (now (start c .args .bt))) (length (now (start c .args .rt))) && inRange (store (start c))) ≡ true
+in-ranges : (c : tie.Else1) → (wholeTables (lent (start c)) && inRange (store (start c))) ≡ true
 in-ranges c = sym (c .before .in-range .ensures) ∙ not-false _ (c .if1 .left)
 
 ranges : (c : tie.Else1)
-    → Ranges (start c .args .head) (length (now (start c .args .bt))) (length (now (start c .args .rt))) (length (now (start c .args .pt))) (length (now (start c .args .slab)))
+    → Ranges (start c .args .head) (lent (start c))
 ranges c =
     let s = start c in
-    ranges→ (s .args .head) (now (s .args .bt)) (now (s .args .rt)) (now (s .args .pt)) (now (s .args .slab)) (omega arith) (in-ranges c)
+    ranges→ (s .args .head) (lent s) (omega arith) (in-ranges c)
 
 rows-sound : (c : tie.Else2) → branchesSound (store (start (c .before .before))) ≡ true
-rows-sound c = sym (c .before .branches-sound .ensures _ _ _) ∙ not-false _ (c .if2 .left)
+rows-sound c = sym (c .before .branches-sound .ensures (lent (start (c .before .before)))) ∙ not-false _ (c .if2 .left)
 
 in-range-requires : tie.Need-in-range-requires
 in-range-requires c κs = search needs
 
 returns : tie.Need-returns
 returns c =
-    let s = c .before .before .before .before .before .before in
-    check-one (s .args .head) (now (s .args .bt)) (now (s .args .rt)) (now (s .args .pt)) (now (s .args .slab)) (sym (c .before .in-range .ensures) ∙ not-true _ (c .if1 .taken))
+    let s = start-from-then1 c in
+    check-one (s .args .head) (lent s) (sym (c .before .in-range .ensures) ∙ not-true _ (c .if1 .taken))
 
 branches-sound-requires : tie.Need-branches-sound-requires
 branches-sound-requires c κs = (ranges c .counted-low, omega (arith, ranges c))
@@ -49,27 +60,27 @@ returns-2 : tie.Need-returns-2
 returns-2 c =
     let d = c .before .before in
     let s = start d in
-    check-two (s .args .head) (now (s .args .bt)) (now (s .args .rt)) (now (s .args .pt)) (now (s .args .slab)) (in-ranges d) (sym (c .before .branches-sound .ensures _ _ _) ∙ not-true _ (c .if2 .taken))
+    check-two (s .args .head) (lent s) (in-ranges d) (sym (c .before .branches-sound .ensures (lent s)) ∙ not-true _ (c .if2 .taken))
 
 records-sound-requires : tie.Need-records-sound-requires
 records-sound-requires c κs =
     let d = c .before .before in
     let s = start d in (
       omega (arith, ranges d),
-      sound-stairs (s .args .head) (now (s .args .bt)) (now (s .args .rt)) (now (s .args .pt)) (now (s .args .slab)) (ranges d .counted-low) (omega (arith, ranges d)) (rows-sound c),
+      sound-stairs (s .args .head) (lent s) (ranges d .counted-low) (omega (arith, ranges d)) (rows-sound c),
     )
 
 returns-3 : tie.Need-returns-3
 returns-3 c =
     let d = c .before .before in
     let s = start (d .before .before) in
-    check-three (s .args .head) (now (s .args .bt)) (now (s .args .rt)) (now (s .args .pt)) (now (s .args .slab)) (in-ranges (d .before .before)) (rows-sound d) (sym (c .before .records-sound .ensures _) ∙ not-true _ (c .if3 .taken))
+    check-three (s .args .head) (lent s) (in-ranges (d .before .before)) (rows-sound d) (sym (c .before .records-sound .ensures (lent s)) ∙ not-true _ (c .if3 .taken))
 
 returns-4 : tie.Need-returns-4
 returns-4 c =
     let d = c .before .before in
     let s = start (d .before .before) in
-    check-none (s .args .head) (now (s .args .bt)) (now (s .args .rt)) (now (s .args .pt)) (now (s .args .slab)) (in-ranges (d .before .before)) (rows-sound d) (sym (c .before .records-sound .ensures _) ∙ not-false _ (c .if3 .left))
+    check-none (s .args .head) (lent s) (in-ranges (d .before .before)) (rows-sound d) (sym (c .before .records-sound .ensures (lent s)) ∙ not-false _ (c .if3 .left))
 
 pub check-spec : {M : Type 1} → statement M
 check-spec =

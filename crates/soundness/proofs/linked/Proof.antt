@@ -9,6 +9,15 @@ use borrow.Author.Needs.{needs}
 use Rattle.soundness.proofs.linked.Statement.{statement}
 use Rattle.soundness.proofs.linked.Tie as tie
 
+abbrev branch-at2-from-struct-known2 : tie.After-struct-known2 → tie.After-branch-at2
+branch-at2-from-struct-known2 c = c .before .before .before
+
+abbrev branch-at2-from-then3 : tie.Then3 → tie.After-branch-at2
+branch-at2-from-then3 c = branch-at2-from-struct-known2 (c .before .before .before .before .before)
+
+abbrev branch-at2-from-joined3 : tie.Joined3 → tie.After-branch-at2
+branch-at2-from-joined3 c = branch-at2-from-struct-known2 (c .before .before .before .before .before)
+
 branch-at-requires : tie.Need-branch-at-requires
 branch-at-requires c κs = search needs
 
@@ -38,7 +47,7 @@ add-if3 c = search needs
 returns-3 : tie.Need-returns-3
 returns-3 c =
     let d = c .before .before in
-    let b = d .before .before .before .before .before .before .before .before in
+    let b = branch-at2-from-then3 d in
     let s = b .before .before .before in
     let bt = now (s .args .bt) in
     refused
@@ -48,7 +57,7 @@ returns-3 c =
 
 held-in-requires : tie.Need-held-in-requires
 held-in-requires c κs =
-    let b = c .before .before .before .before .before .before .before .before in
+    let b = branch-at2-from-joined3 c in
     let s = b .before .before .before in
     let bt = now (s .args .bt) in
     (omega (arith, s .pre .0), passes-stairs (s .args .floor) (branchRowsOf bt) (s .args .i) (omega (arith, branch-count bt, s .pre .0)) (s .pre .1))

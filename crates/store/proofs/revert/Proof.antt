@@ -1,4 +1,5 @@
-use mathlib.Core.Path.{refl}
+use Rattle.rows.proofs.Laws.{branch-kind, branch-count}
+use Rattle.rows.proofs.Relaid.{set-length}
 use native.Mathlib.Omega.{arith}
 use denote.Ref.{now}
 use Rattle.store.proofs.Laws.{Growing, revert-kept, revert-grows, revert-done}
@@ -9,23 +10,32 @@ use Rattle.rows.proofs.branch_at.Reads as branch-at-reads
 use Rattle.rows.proofs.set_branch.Reads as set-branch-reads
 use Rattle.store.proofs.revert_refusal.Reads as revert-refusal-reads
 
+abbrev else1-from-set-branch-arg : tie.After-set-branch-arg → tie.Else1
+else1-from-set-branch-arg c = c .before .before .before .before
+
+abbrev else1-from-set-branch-arg2 : tie.After-set-branch-arg2 → tie.Else1
+else1-from-set-branch-arg2 c = else1-from-set-branch-arg (c .before .before .before .before)
+
 revert-refusal-requires : tie.Need-revert-refusal-requires
 revert-refusal-requires c κs = search needs
 
 refused-requires : tie.Need-refused-requires
 refused-requires c κs = search needs
 
+same-length : tie.Need-same-length
+same-length c = search needs
+
 returns : tie.Need-returns
 returns c =
     let g = c .before .before in
-    let s = g .before .before in
-    revert-kept (s .args .head) (now (s .args .bt)) (s .args .m) (g .revert-refusal .result) _ refl (g .revert-refusal .ensures) (c .refused .result) (c .refused .ensures) (c .before .if1 .taken)
+    let s = g .before .before .before .before in
+    revert-kept (s .args .head) (now (s .args .bt)) (s .args .m) (g .revert-refusal .result) _ (g .before .branch-rows .ensures) (g .revert-refusal .ensures) (c .refused .result) (c .refused .ensures) (c .before .if1 .taken)
 
-grows : (c : tie.Else1) → Growing (c .before .before .before .args .head) (now (c .before .before .before .args .bt))
+grows : (c : tie.Else1) → Growing (c .before .before .before .before .before .args .head) (now (c .before .before .before .before .before .args .bt))
 grows c =
     let g = c .before in
-    let s = g .before .before in
-    revert-grows (s .args .head) (now (s .args .bt)) (s .args .m) (g .revert-refusal .result) _ refl (g .revert-refusal .ensures) (c .if1 .left)
+    let s = g .before .before .before .before in
+    revert-grows (s .args .head) (now (s .args .bt)) (s .args .m) (g .revert-refusal .result) _ (g .before .branch-rows .ensures) (g .revert-refusal .ensures) (c .if1 .left)
 
 add-next : tie.Need-add-next
 add-next c = omega (arith, grows c .later)
@@ -47,17 +57,17 @@ set-branch-requires c κs = search needs
 
 set-branch-requires-2 : tie.Need-set-branch-requires-2
 set-branch-requires-2 c κs =
-    let e = c .before .before .before .before .before .before .before .before in
-    omega (arith, grows e .room, c .before .before .before .set-branch .ensures .1)
+    let e = else1-from-set-branch-arg2 c in
+    omega (arith, grows e .room, set-length branch-kind (c .before .before .before .set-branch .ensures), branch-count (now (e .before .before .before .before .before .args .bt)))
 
-add-t22 : tie.Need-add-t22
-add-t22 c = search needs
+add-t23 : tie.Need-add-t23
+add-t23 c = search needs
 
 accepted-requires : tie.Need-accepted-requires
 accepted-requires c κs = search needs
 
-same-length : tie.Need-same-length
-same-length c = search needs
+same-length-2 : tie.Need-same-length-2
+same-length-2 c = search needs
 
 returns-2 : tie.Need-returns-2
 returns-2 c =
@@ -66,16 +76,21 @@ returns-2 c =
     let i = b1 .before .before in
     let e = i .before .before .before in
     let g = e .before in
-    let s = g .before .before in
-    revert-done (s .args .head) (now (s .args .bt)) (s .args .m) (g .revert-refusal .result) _ refl (g .revert-refusal .ensures) (e .if1 .left) (c .accepted .result) _ _ (i .branch-at .result) (c .accepted .ensures)
-    (i .branch-at .ensures) (b1 .set-branch .ensures .0) (b2 .set-branch2 .ensures .0)
+    let s = g .before .before .before .before in
+    revert-done (s .args .head) (now (s .args .bt)) (s .args .m) (g .revert-refusal .result) _ (g .before .branch-rows .ensures) (g .revert-refusal .ensures) (e .if1 .left) (c .accepted .result) _ _ (i .branch-at .result) (c .accepted .ensures)
+    (i .branch-at .ensures) (b1 .set-branch .ensures) (b2 .set-branch2 .ensures)
+
+branch-rows-requires : tie.Need-branch-rows-requires
+branch-rows-requires c κs = search needs
 
 pub revert-spec : {M : Type 1} → statement M
 revert-spec =
     tie.close
     (tie.spec
+    branch-rows-requires
     revert-refusal-requires
     refused-requires
+    same-length
     returns
     add-next
     cast-n
@@ -84,7 +99,7 @@ revert-spec =
     sub-set-branch
     set-branch-requires
     set-branch-requires-2
-    add-t22
+    add-t23
     accepted-requires
-    same-length
+    same-length-2
     returns-2)

@@ -1,3 +1,4 @@
+use Rattle.rows.specs.View.{numberTables}
 use borrow.Author.Needs.{needs}
 use Rattle.tables.proofs.load.Statement.{statement}
 use Rattle.tables.proofs.load.Tie as tie
@@ -22,11 +23,9 @@ same-length-3 c = search needs
 
 returns : tie.Need-returns
 returns c =
-    record {
-      branches = c .before .before .before .before .before .before .before .before .before .before .get-all .ensures;
-      records = c .before .before .before .before .before .before .get-all2 .ensures;
-      places = c .before .before .get-all3 .ensures;
-    }
+    let g = c .before .before in
+    let h = g .before .before .before .before in
+    λ i. numberTables (h .before .before .before .before .get-all .ensures i) (h .get-all2 .ensures i) (g .get-all3 .ensures i)
 
 pub load-spec : {M : Type 1} → statement M
 load-spec =

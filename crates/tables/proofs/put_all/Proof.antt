@@ -25,6 +25,12 @@ Inv-loop src dst₀ i₀ i-end dst i = (i ≤ length src) × (length dst ≡ len
 abbrev μ-loop : tie.MeasureT-loop
 μ-loop src dst₀ i₀ i-end dst i = length src - i
 
+abbrev loop-from-put-number-arg : tie.After-put-number-arg Inv-loop μ-loop → tie.At-loop Inv-loop μ-loop
+loop-from-put-number-arg c = c .before .before
+
+abbrev loop-from-slice-known2 : tie.After-slice-known2 Inv-loop μ-loop → tie.At-loop Inv-loop μ-loop
+loop-from-slice-known2 c = loop-from-put-number-arg (c .before .before .before .before)
+
 loop-holds : tie.Need-loop-holds Inv-loop μ-loop
 unfolding flat
 loop-holds c = (search needs, refl, refl)
@@ -58,7 +64,7 @@ loop-less c = search needs
 
 loop-again : tie.Need-loop-again Inv-loop μ-loop
 loop-again c =
-    let l = c .before .before .before .before .before .before in
+    let l = loop-from-slice-known2 c in
     let s = l .before .before .before in
     let i = l .loop .i in
     let src = now (s .args .src) in

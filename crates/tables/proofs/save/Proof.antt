@@ -2,6 +2,15 @@ use borrow.Author.Needs.{needs}
 use Rattle.tables.proofs.save.Statement.{statement}
 use Rattle.tables.proofs.save.Tie as tie
 
+abbrev put-all2-from-records : tie.After-records → tie.After-put-all2
+put-all2-from-records c = c .before
+
+abbrev put-all2-from-slice-known6 : tie.After-slice-known6 → tie.After-put-all2
+put-all2-from-slice-known6 c = put-all2-from-records (c .before .before .before .before .before)
+
+abbrev put-all-from-slice-known6 : tie.After-slice-known6 → tie.After-put-all
+put-all-from-slice-known6 c = (put-all2-from-slice-known6 c) .before .before .before .before
+
 put-all-requires : tie.Need-put-all-requires
 put-all-requires c κs = search needs
 
@@ -23,8 +32,8 @@ same-length-3 c = search needs
 returns : tie.Need-returns
 returns c =
     record {
-      branches = c .before .before .before .before .before .before .before .before .before .before .put-all .ensures;
-      records = c .before .before .before .before .before .before .put-all2 .ensures;
+      branches = (put-all-from-slice-known6 c) .put-all .ensures;
+      records = (put-all2-from-slice-known6 c) .put-all2 .ensures;
       places = c .before .before .put-all3 .ensures;
     }
 

@@ -1,4 +1,4 @@
--- `trials::say_seen` is safe and ends: fewer turns are left after each.
+-- `say_seen` is safe and ends: fewer turns are left after each.
 use Prim.Native.Nat.{_-_}
 use native.Mathlib.Omega.{arith}
 use Rattle.trials.proofs.say_seen.Statement.{statement}

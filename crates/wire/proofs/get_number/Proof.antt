@@ -21,9 +21,9 @@ loop-holds : tie.Need-loop-holds Inv-loop μ-loop
 loop-holds c =
     (search needs, refl, search needs, refl)
 
--- fewer than seven bytes have been read
-small : (c : tie.In-loop Inv-loop μ-loop) → c .before .loop .n < 2 ^ 48
-small c = let h : 256 ^ (c .before .loop .i) ≤ 256 ^ 6 = pow-le-pow-right {n = 256} (omega arith) {i = c .before .loop .i} {j = 6} (omega arith) in omega arith
+-- fewer than eight bytes have been read
+small : (c : tie.In-loop Inv-loop μ-loop) → c .before .loop .n < 2 ^ 56
+small c = let h : 256 ^ (c .before .loop .i) ≤ 256 ^ 7 = pow-le-pow-right {n = 256} (omega arith) {i = c .before .loop .i} {j = 7} (omega arith) in omega arith
 
 mul-n : tie.Need-mul-n Inv-loop μ-loop
 mul-n c =

@@ -1,15 +1,22 @@
-use borrow.Author.Tests.{eq-eqb, ne-eqb, le-leb, lt-leb}
+use mathlib.Core.Path.{_≡_}
+use mathlib.Core.Bool.{true, false}
+use lib.Dec.{eqb}
+use borrow.Author.Tests.{not-true, not-false, ltb-true, ltb-false, le-leb, lt-leb}
 use Rattle.wire.proofs.paged.Statement.{statement}
 use Rattle.wire.proofs.paged.Tie as tie
 
 returns : tie.Need-returns
-returns c = rw (ne-eqb _ _ (c .if1 .taken))
+returns c = let e : eqb (c .before .args .unused) 0 ≡ false = not-true _ (c .if1 .taken) in rw e
 
 returns-2 : tie.Need-returns-2
-returns-2 c = rw (eq-eqb _ _ (c .before .if1 .left), lt-leb _ _ (c .if2 .taken))
+returns-2 c =
+    let s = c .before .before .args in
+    let e : eqb (s .unused) 0 ≡ true = not-false _ (c .before .if1 .left) in rw (e, lt-leb 256 (s .left) (ltb-true _ _ (c .if2 .taken)))
 
 returns-3 : tie.Need-returns-3
-returns-3 c = rw (eq-eqb _ _ (c .before .if1 .left), le-leb _ _ (c .if2 .left))
+returns-3 c =
+    let s = c .before .before .args in
+    let e : eqb (s .unused) 0 ≡ true = not-false _ (c .before .if1 .left) in rw (e, le-leb 256 (s .left) (ltb-false _ _ (c .if2 .left)))
 
 pub paged-spec : {M : Type 1} → statement M
 paged-spec = tie.close (tie.spec returns returns-2 returns-3)

@@ -12,6 +12,27 @@ use borrow.Author.Needs.{needs}
 use Rattle.wire.proofs.put_answer.Statement.{statement}
 use Rattle.wire.proofs.put_answer.Tie as tie
 
+abbrev start-from-match-keys2 : tie.At-match-keys2 → tie.Start
+start-from-match-keys2 c = c .before .before .before
+
+abbrev start-from-put-head-arg2 : tie.After-put-head-arg2 → tie.Start
+start-from-put-head-arg2 c = start-from-match-keys2 (c .before .before .before)
+
+abbrev start-from-match-keys1 : tie.At-match-keys1 → tie.Start
+start-from-match-keys1 c = c .before .before .before
+
+abbrev start-from-put-head : tie.After-put-head → tie.Start
+start-from-put-head c = start-from-match-keys1 (c .before .before .before)
+
+abbrev put-head2-from-put-page-arg : tie.After-put-page-arg → tie.After-put-head2
+put-head2-from-put-page-arg c = c .before .before .before
+
+abbrev put-head2-from-slice-known4 : tie.After-slice-known4 → tie.After-put-head2
+put-head2-from-slice-known4 c = put-head2-from-put-page-arg (c .before .before .before)
+
+abbrev start-from-put-head2 : tie.After-put-head2 → tie.Start
+start-from-put-head2 c = start-from-put-head-arg2 (c .before)
+
 enum-told : tie.Need-enum-told
 enum-told c = search needs
 
@@ -30,12 +51,12 @@ room c =
     omega (arith, size-page (s .args .r) (now (s .args .slab)) _ (c .found .given .1) (s .pre .1), s .pre .2)
 
 put-head-requires-2 : tie.Need-put-head-requires-2
-put-head-requires-2 c κs = (omega (arith, room (c .before .before)), c .before .before .before .before .before .before .pre .0, omega arith)
+put-head-requires-2 c κs = (omega (arith, room (c .before .before)), (start-from-put-head-arg2 c) .pre .0, omega arith)
 
 -- the head leaves the area's length
-headed : (c : tie.After-put-head2) → length (c .put-head2 .last .0) ≡ length (now (c .before .before .before .before .before .before .before .args .out))
+headed : (c : tie.After-put-head2) → length (c .put-head2 .last .0) ≡ length (now ((start-from-put-head2 c) .args .out))
 headed c =
-    let s = c .before .before .before .before .before .before .before in
+    let s = start-from-put-head2 c in
     ap length (c .put-head2 .ensures)
     ∙ length-front (headBytes (s .args .r .refusal) 1 (s .args .r .value)) (now (s .args .out)) (omega (arith, length-head (s .args .r .refusal) 1 (s .args .r .value), room (c .before .before .before)))
 
@@ -61,7 +82,7 @@ same-length c = search needs
 returns : tie.Need-returns
 returns c =
     let h = c .before .before in
-    let s = h .before .before .before .before .before .before in
+    let s = start-from-put-head h in
     let e = h .before .before .enum-told .given .1 in (
       sym (size-none (s .args .r) (now (s .args .slab)) e),
       rw (sent-none (s .args .r) (now (s .args .slab)) e) (h .put-head .ensures),
@@ -72,7 +93,7 @@ same-length-2 c = search needs
 
 returns-2 : tie.Need-returns-2
 returns-2 c =
-    let h = c .before .before .before .before .before .before in
+    let h = put-head2-from-slice-known4 c in
     let f = h .before .before .before in
     let s = f .before .before .before .before in
     let e = f .found .given .1 in

@@ -6,6 +6,12 @@ use borrow.Author.Needs.{needs}
 use Rattle.wire.proofs.put_page.Statement.{statement}
 use Rattle.wire.proofs.put_page.Tie as tie
 
+abbrev start-from-copy-arg : tie.After-copy-arg → tie.Start
+start-from-copy-arg c = c .before .before .before
+
+abbrev start-from-slice-known2 : tie.After-slice-known2 → tie.Start
+start-from-slice-known2 c = start-from-copy-arg (c .before .before .before .before)
+
 mul-at : tie.Need-mul-at
 mul-at c = search needs
 
@@ -30,7 +36,7 @@ same-length c = search needs
 returns : tie.Need-returns
 unfolding pageAt
 returns c =
-    let s = c .before .before .before .before .before .before .before in
+    let s = start-from-slice-known2 c in
     let at : s .args .place * 256 ≡ 256 * s .args .place = omega arith in
     let n : 256 * s .args .place + 256 - 256 * s .args .place ≡ 256 = omega arith in
     rw (at, n) at (c .before .before .copy .ensures)

@@ -6,7 +6,8 @@ use lib.ListN.{length}
 use Rattle.model.specs.declared.Record.{Record}
 use Rattle.rows.specs.Rows.{recordRowsOf}
 use Rattle.rows.proofs.Laws.{record-count}
-use Rattle.model.proofs.ByNumber.{Ascend, asc-ascend}
+use Rattle.model.proofs.ByNumber.{asc-ascend}
+use Rattle.model.specs.ByNumber.{Ascend}
 use Rattle.lookup.proofs.Laws.{Bracket, bracket-of}
 use Rattle.writing.proofs.Laws.{standing-row, standing-none, standing-slot}
 use borrow.Author.Needs.{needs}

@@ -1,4 +1,5 @@
-use mathlib.Core.Path.{_≡_, refl, ap, sym, _∙_}
+use Rattle.rows.specs.View.{Tables, withRecords, withPlaces, withSlab}
+use mathlib.Core.Path.{_≡_, ap, sym, _∙_}
 use mathlib.Core.Option.{some}
 use native.Mathlib.Omega.{arith}
 use denote.Ref.{now}
@@ -16,13 +17,37 @@ use Rattle.writing.proofs.put_page.Reads as put-page-reads
 use Rattle.writing.proofs.standing.Reads as standing-reads
 use Rattle.writing.proofs.write_new.Reads as write-new-reads
 
+abbrev write-new-from-rt : tie.After-rt → tie.After-write-new
+write-new-from-rt c = c .before
+
+abbrev write-new-from-slice-known7 : tie.After-slice-known7 → tie.After-write-new
+write-new-from-slice-known7 c = write-new-from-rt (c .before .before .before .before .before)
+
+abbrev start-from-slice-known : tie.After-slice-known → tie.Start
+start-from-slice-known c = c .before
+
+abbrev start-from-else1 : tie.Else1 → tie.Start
+start-from-else1 c = start-from-slice-known (c .before .before .before .before .before)
+
+abbrev slice-known-from-slice-known2 : tie.After-slice-known2 → tie.After-slice-known
+slice-known-from-slice-known2 c = c .before
+
+abbrev start-from-refused : tie.After-refused → tie.Start
+start-from-refused c = start-from-slice-known (slice-known-from-slice-known2 (c .before .before .before .before .before))
+
+abbrev start-from-standing : tie.After-standing → tie.Start
+start-from-standing c = start-from-else1 (c .before .before .before .before .before)
+
+abbrev lent : tie.Start → Tables → Tables
+lent s t = withSlab (now (s .args .slab)) (withPlaces (now (s .args .pt)) (withRecords (now (s .args .rt)) t))
+
 refused-requires : tie.Need-refused-requires
 refused-requires c κs = search needs
 
 returns : tie.Need-returns
 returns c =
-    let s = c .before .before .before .before .before .before .before in
-    write-refused (s .args .head) (now (s .args .rt)) (now (s .args .pt)) (now (s .args .slab)) (s .args .a) (now (s .args .page)) (c .refused .result) (c .refused .ensures) (c .before .if1 .taken)
+    let s = start-from-refused c in
+    λ t. write-refused (s .args .head) (lent s t) (s .args .a) (now (s .args .page)) (c .refused .result) (c .refused .ensures) (c .before .if1 .taken)
 
 cast-n : tie.Need-cast-n
 cast-n c = search needs
@@ -43,11 +68,14 @@ put-page-requires : tie.Need-put-page-requires
 put-page-requires c κs =
     let d = c .before .before .before in
     let g = d .before .before in
-    let s = g .before .before .before .before .before .before .before .before .before .before .before in
+    let s = start-from-standing g in
     let rs = take (s .args .head .records) (recordRowsOf (now (s .args .rt))) in
     let q = d .found .given .0 .0 in
     let e : latest rs (s .args .a) (s .args .head .now) (s .args .head .now) ≡ some q = sym (g .standing .ensures .0) ∙ ap foundOf (d .found .given .1) in
     omega (arith, s .pre .0 .placed q (latest→ rs (s .args .a) (s .args .head .now) (s .args .head .now) q e .0), s .pre .0 .room .places, s .pre .0 .room .pages, s .pre .1)
+
+accepted-requires : tie.Need-accepted-requires
+accepted-requires c κs = search needs
 
 enum-told : tie.Need-enum-told
 enum-told c = search needs
@@ -56,7 +84,7 @@ write-new-requires : tie.Need-write-new-requires
 write-new-requires c κs =
     let d = c .before .before .before in
     let g = d .before .before in
-    let s = g .before .before .before .before .before .before .before .before .before .before .before in
+    let s = start-from-standing g in
     (s .pre .0 .room, (s .pre .1, g .standing .ensures .1 (ap foundOf (d .enum-told .given .1))))
 
 same-length : tie.Need-same-length
@@ -67,12 +95,12 @@ same-length-2 c = search needs
 
 returns-2 : tie.Need-returns-2
 returns-2 c =
-    let h = c .before .before in
+    let h = c .before .before .before in
     let d = h .before .before .before .before in
     let g = d .before .before in
     let o = g .before .before .before .before .before in
-    let s = o .before .before .before .before .before .before in
-    write-over (s .args .head) (now (s .args .rt)) (now (s .args .pt)) (now (s .args .slab)) (s .args .a) (now (s .args .page)) _ _ (d .found .given .0 .0) refl (o .if1 .left)
+    let s = start-from-else1 o in
+    λ t. write-over (s .args .head) (lent s t) (s .args .a) (now (s .args .page)) (c .accepted .result) _ (d .found .given .0 .0) (c .accepted .ensures) (o .if1 .left)
     (sym (g .standing .ensures .0) ∙ ap foundOf (d .found .given .1)) (h .put-page .ensures)
 
 same-length-3 : tie.Need-same-length-3
@@ -86,13 +114,13 @@ same-length-5 c = search needs
 
 returns-3 : tie.Need-returns-3
 returns-3 c =
-    let w = c .before .before .before .before .before .before in
+    let w = write-new-from-slice-known7 c in
     let d = w .before .before .before .before in
     let g = d .before .before in
     let o = g .before .before .before .before .before in
-    let s = o .before .before .before .before .before .before in
-    λ bt. w .write-new .ensures bt ∙ write-else (s .args .head) (now (s .args .rt)) (now (s .args .pt)) (now (s .args .slab)) (s .args .a) (now (s .args .page)) (o .if1 .left)
-    (sym (g .standing .ensures .0) ∙ ap foundOf (d .enum-told .given .1)) bt
+    let s = start-from-else1 o in
+    λ t. write-else (s .args .head) (lent s t) (s .args .a) (now (s .args .page)) (w .write-new .result) (o .if1 .left)
+    (sym (g .standing .ensures .0) ∙ ap foundOf (d .enum-told .given .1)) (w .write-new .ensures t)
 
 pub write-spec : {M : Type 1} → statement M
 write-spec =
@@ -106,6 +134,7 @@ write-spec =
     enum-known-found
     cast-own
     put-page-requires
+    accepted-requires
     enum-told
     write-new-requires
     same-length

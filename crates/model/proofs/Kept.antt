@@ -1,0 +1,346 @@
+-- What every request keeps of a store: the lengths of tables and slab, and that each number of head and tables is one of 32 bits.
+use Prim.Native.Nat.{ℕ, zero, suc, _+_, _-_, _≤_, _<_}
+use mathlib.Core.Path.{_≡_, refl, _∙_}
+use mathlib.Core.Logic.{inl, inr}
+use mathlib.Core.List.{List, [], _∷_, _++_, map}
+use mathlib.Core.Bool.{Bool, cond}
+use native.Mathlib.Omega.{arith}
+use lib.Dec.{leb, ltb}
+use lib.ListN.{length, getD, take, drop, set, replicate, length-set, length-append, length-drop, length-take, length-map}
+use borrow.Author.Tests.{ltb-true, ltb-false, leb-false}
+use Rattle.model.specs.declared.Branch.{Branch}
+use Rattle.model.specs.declared.Record.{Record}
+use Rattle.model.specs.declared.Head.{Head}
+use Rattle.model.specs.Store.{Store, branches, records, keep, open-end, zero-branch, zero-record, _∈_}
+use Rattle.model.specs.Lookup.{readable, isGiven, isAncestor}
+use Rattle.model.specs.Wire.{Request, write, mark, revert, readAt, reclaim, parse, end, one, answerBytes}
+use Rattle.model.specs.Step.{Stepped, standing, firstFree, before, shifted, putIn, inserted, written, doWrite, doMark, branched, doRevert, doRead, renumbered, closedUp, reclaimed, doReclaim, step}
+use Rattle.model.specs.Batch.{run, batch}
+use Rattle.model.specs.ByNumber.{Sizes, Sound, Whole, Names}
+use Rattle.model.proofs.Base.{case, mem-append, mem-take, mem-drop, mem-set, mem-replicate, mem-keep, map-mem, mem-getD, getD-mem, length-keep}
+use Rattle.model.proofs.Latest.{caseOption, latest→}
+use Rattle.model.proofs.Places.{named-mem, firstFree→}
+use Rattle.model.proofs.Pages.{length-withPage}
+use Rattle.model.proofs.Invariant.{sound-check}
+use Rattle.model.proofs.Writing.{put-mem, before-le, length-put, length-records}
+use Rattle.model.proofs.Reclaiming.{length-closed, length-branches}
+use Rattle.model.proofs.ByNumber.{names-of, names-below}
+use Rattle.model.proofs.Steps.{step-sound}
+use Rattle.model.proofs.Parsing.{Reads, parse-reads, caseParsed}
+use Rattle.model.proofs.Running.{run-end, run-stop, run-full, run-one, batch-run}
+
+-- a number of 32 bits
+abbrev pub Small : ℕ → Type 0
+Small n = n < 4294967296
+
+pub record SmallHead (h : Head) : Type 0 where
+  pub size : Small (h .size)
+  pub branches : Small (h .branches)
+  pub records : Small (h .records)
+  pub now : Small (h .now)
+  pub floor : Small (h .floor)
+
+pub record SmallBranch (b : Branch) : Type 0 where
+  pub start : Small (b .start)
+  pub end : Small (b .end)
+  pub cut : Small (b .cut)
+
+pub record SmallRecord (r : Record) : Type 0 where
+  pub address : Small (r .address)
+  pub moment : Small (r .moment)
+  pub place : Small (r .place)
+
+-- a statement of every element
+pub record All {A : Type 0} (P : A → Type 0) (xs : List A) : Type 0 where
+  pub each : (x : A) → x ∈ xs → P x
+
+module _ {A : Type 0} {P : A → Type 0} where
+  pub all-append : {xs ys : List A} → All P xs → All P ys → All P (xs ++ ys)
+  all-append {xs} {ys} f g = record { each = λ x m. elim (mem-append x xs ys m) [ inl k ↦ f .each x k | inr k ↦ g .each x k ] }
+
+  pub all-set : {xs : List A} (i : ℕ) (v : A) → All P xs → P v → All P (set xs i v)
+  all-set {xs} i v f p = record { each = λ x m. elim (mem-set x xs i v m) [ inl e ↦ rw e p | inr k ↦ f .each x k ] }
+
+  pub all-drop : (n : ℕ) {xs : List A} → All P xs → All P (drop n xs)
+  all-drop n {xs} f = record { each = λ x m. f .each x (mem-drop n x xs m) }
+
+  all-take : (n : ℕ) {xs : List A} → All P xs → All P (take n xs)
+  all-take n {xs} f = record { each = λ x m. f .each x (mem-take n x xs m) }
+
+  all-keep : (k : A → Bool) {xs : List A} → All P xs → All P (keep k xs)
+  all-keep k {xs} f = record { each = λ x m. f .each x (mem-keep k x xs m .0) }
+
+  pub all-get : (xs : List A) (i : ℕ) (z : A) → P z → All P xs → P (getD xs i z)
+  all-get [] i z p f = p
+  all-get (x ∷ xs) zero z p f = f .each x (inl refl)
+  all-get (x ∷ xs) (suc i) z p f = all-get xs i z p (record { each = λ y m. f .each y (inr m) })
+
+pub all-replicate : {A : Type 0} (P : A → Type 0) (n : ℕ) (z : A) → P z → All P (replicate n z)
+all-replicate P n z p = record { each = λ x m. rw (mem-replicate x n z m) p }
+
+-- every number of head and tables is one of 32 bits
+pub record Narrow (s : Store) : Type 0 where
+  pub head : SmallHead (s .head)
+  pub branches : All SmallBranch (s .branchRows)
+  pub records : All SmallRecord (s .recordRows)
+  pub places : All Small (s .placeRows)
+
+-- u has tables and slab as long as those of s, and its numbers are of 32 bits if those of s are
+pub record Kept (s u : Store) : Type 0 where
+  pub branches : length (u .branchRows) ≡ length (s .branchRows)
+  pub records : length (u .recordRows) ≡ length (s .recordRows)
+  pub places : length (u .placeRows) ≡ length (s .placeRows)
+  pub slab : length (u .slab) ≡ length (s .slab)
+  pub narrow : Narrow s → Narrow u
+
+kept-none : (s : Store) → Kept s s
+kept-none s = record { branches = refl; records = refl; places = refl; slab = refl; narrow = λ n. n }
+
+pub kept-then : {s t u : Store} → Kept s t → Kept t u → Kept s u
+kept-then x y =
+    record {
+      branches = y .branches ∙ x .branches;
+      records = y .records ∙ x .records;
+      places = y .places ∙ x .places;
+      slab = y .slab ∙ x .slab;
+      narrow = λ n. y .narrow (x .narrow n);
+    }
+
+kept-if : (s : Store) (b : Bool) (x y : Stepped) → Kept s (x .store) → Kept s (y .store) → Kept s (cond b x y .store)
+kept-if s b x y f g = case b (λ e. rw e f) (λ e. rw e g)
+
+-- a place row names a record, so it is small
+rows-below : (s : Store) → Sound s → (k : ℕ) → k ∈ s .placeRows → k ≤ 65536
+unfolding records
+rows-below s h k m =
+    let z : Sizes s = h .sizes in
+    let i : (i : ℕ) × (i < length (s .placeRows)) × (getD (s .placeRows) i 0 ≡ k) = mem-getD k (s .placeRows) 0 m in
+    let n : Names (s .recordRows) (s .head .records) (s .placeRows) = names-of (s .recordRows) (s .head .records) (s .placeRows) (z .records-counted) (h .named) (h .in-use) in
+    omega (arith, i .2, names-below n (i .0), z .records-counted, z .allowed .records-high)
+
+inserted-kept : (s : Store) (r : Record) (page : List ℕ) (k : ℕ) → Sound s → length page ≡ 256 → r .address < s .head .size → r .moment ≡ s .head .now
+    → s .head .records < length (s .recordRows) → r .place < length (s .placeRows) → k ≤ length (records s) → Kept s (inserted s r page k)
+unfolding inserted
+inserted-kept s r page k h w ad rm room inside kl =
+    let z : Sizes s = h .sizes in
+    let ln : length (records s) ≡ s .head .records = length-records s z in
+    let old : Narrow s → All SmallRecord (records s) = unfold records in λ n. all-take (s .head .records) (n .records) in
+    record {
+      branches = refl;
+      records =
+          omega (arith, length-append (putIn k r (records s)) (drop (s .head .records + 1) (s .recordRows)), length-put k r (records s), length-drop (s .head .records + 1) (s .recordRows));
+      places = simp (length-set, length-map);
+      slab = length-withPage (s .slab) (r .place) page w (omega (arith, z .allowed .slab));
+      narrow =
+          λ n.
+          record {
+            head = record { size = n .head .size; branches = n .head .branches; records = omega (arith, z .allowed .records-high); now = n .head .now; floor = n .head .floor };
+            branches = n .branches;
+            records =
+                all-append {xs = putIn k r (records s)}
+                (record {
+                  each =
+                      λ q m.
+                      elim (put-mem r k (records s) q m) [
+                        | inl e ↦ rw e (record { address = omega (arith, z .allowed .size-high); moment = omega (arith, n .head .now); place = omega (arith, z .allowed .places-high) })
+                        | inr i ↦ old n .each q i
+                      ];
+                })
+                (all-drop (s .head .records + 1) (n .records));
+            places = all-set (r .place) (suc k) shifts (omega (arith, z .records-counted, z .allowed .records-high));
+          };
+    }
+  where
+    shifts : All Small (map (shifted k) (s .placeRows))
+    shifts =
+        record {
+          each =
+              λ x m.
+              let q : (y : ℕ) × (y ∈ s .placeRows) × (x ≡ shifted k y) = map-mem (shifted k) x (s .placeRows) m in
+              let b : q .0 ≤ 65536 = rows-below s h (q .0) (q .1) in
+              rw (q .2) (case (leb (q .0) k) (λ e. rw e (omega arith)) (λ e. rw e (omega arith)));
+        }
+
+written-kept : (s : Store) (a : ℕ) (page : List ℕ) → Sound s → length page ≡ 256 → a < s .head .size → Kept s (written s a page (standing s a) .store)
+written-kept s a page h w ad =
+    let z : Sizes s = h .sizes in
+    caseOption (standing s a)
+    (λ e.
+    rw e
+    (case (ltb (s .head .records) (length (s .recordRows)))
+    (λ c.
+    rw c
+    (caseOption (firstFree (s .placeRows))
+    (λ f. rw f (kept-none s))
+    (λ p f.
+    let q : Record = record { address = a; moment = s .head .now; place = p } in
+    rw f (inserted-kept s q page (before q (records s)) h w ad refl (ltb-true _ _ c) (firstFree→ (s .placeRows) p f .0) (before-le q (records s))))))
+    (λ c. rw c (kept-none s))))
+    (λ q e.
+    let m : q ∈ records s = latest→ (records s) a (s .head .now) (s .head .now) q e .0 in
+    let i : q .place < length (s .placeRows) = named-mem (s .placeRows) 1 (records s) q (h .named) m .0 in
+    rw e
+    (record {
+      branches = refl;
+      records = refl;
+      places = refl;
+      slab = length-withPage (s .slab) (q .place) page w (omega (arith, z .allowed .slab));
+      narrow = λ n. record { head = n .head; branches = n .branches; records = n .records; places = n .places };
+    }))
+
+branched-kept : (s : Store) (m : ℕ) → Sound s → m < s .head .now → s .head .now < open-end → s .head .branches < length (s .branchRows) → Kept s (branched s m)
+unfolding branched
+branched-kept s m h l t room =
+    let z : Sizes s = h .sizes in
+    record {
+      branches = simp length-set;
+      records = refl;
+      places = refl;
+      slab = refl;
+      narrow =
+          λ n.
+          let last : SmallBranch (getD (s .branchRows) (s .head .branches - 1) zero-branch) =
+          n .branches .each (getD (s .branchRows) (s .head .branches - 1) zero-branch) (getD-mem (s .branchRows) (s .head .branches - 1) zero-branch (omega (arith, z .counted-low))) in
+          record {
+            head = record { size = n .head .size; branches = omega (arith, z .allowed .branches-high); records = n .head .records; now = omega arith; floor = n .head .floor };
+            branches =
+                all-set (s .head .branches) _ (all-set (s .head .branches - 1) _ (n .branches) (record { start = last .start; end = omega arith; cut = last .cut }))
+                (record { start = omega arith; end = omega arith; cut = omega arith });
+            records = n .records;
+            places = n .places;
+          };
+    }
+
+-- rows that close up
+closed-small : {A : Type 0} {P : A → Type 0} (z : A) (kept : List A) (count : ℕ) (rows : List A) → P z → All P kept → All P rows → All P (closedUp z kept count rows)
+closed-small {P = P} z kept count rows p f g = all-append f (all-append (all-replicate P (count - length kept) z p) (all-drop count g))
+
+reclaimed-kept : (s : Store) (m : ℕ) → Sound s → m ≤ s .head .now → Kept s (reclaimed s m (keep (isAncestor s m) (branches s)) (keep (isGiven s m) (records s)))
+unfolding reclaimed
+reclaimed-kept s m h u =
+    let z : Sizes s = h .sizes in
+    let ln : length (records s) ≡ s .head .records = length-records s z in
+    let lb : length (branches s) ≡ s .head .branches = length-branches s z in
+    let kr : length (keep (isGiven s m) (records s)) ≤ length (records s) = length-keep (isGiven s m) (records s) in
+    let kb : length (keep (isAncestor s m) (branches s)) ≤ length (branches s) = length-keep (isAncestor s m) (branches s) in
+    let old-rows : Narrow s → All SmallBranch (branches s) = unfold branches in λ n. all-take (s .head .branches) (n .branches) in
+    let old : Narrow s → All SmallRecord (records s) = unfold records in λ n. all-take (s .head .records) (n .records) in
+    record {
+      branches = length-closed zero-branch (keep (isAncestor s m) (branches s)) (s .head .branches) (s .branchRows) (omega arith) (z .counted-high);
+      records = length-closed zero-record (keep (isGiven s m) (records s)) (s .head .records) (s .recordRows) (omega arith) (z .records-counted);
+      places = length-map (s .placeRows) _;
+      slab = refl;
+      narrow =
+          λ n.
+          record {
+            head =
+                record {
+                  size = n .head .size;
+                  branches = omega (arith, z .counted-high, z .allowed .branches-high);
+                  records = omega (arith, z .records-counted, z .allowed .records-high);
+                  now = n .head .now;
+                  floor = omega (arith, n .head .now);
+                };
+            branches =
+                closed-small zero-branch _ (s .head .branches) (s .branchRows) (record { start = omega arith; end = omega arith; cut = omega arith })
+                (all-keep (isAncestor s m) (old-rows n)) (n .branches);
+            records =
+                closed-small zero-record _ (s .head .records) (s .recordRows) (record { address = omega arith; moment = omega arith; place = omega arith })
+                (all-keep (isGiven s m) (old n)) (n .records);
+            places =
+                record {
+                  each =
+                      λ x i.
+                      let q : (y : ℕ) × (y ∈ s .placeRows) × (x ≡ renumbered (isGiven s m) (records s) y) = map-mem (renumbered (isGiven s m) (records s)) x (s .placeRows) i in
+                      rw (q .2) (renumbered-small (isGiven s m) (records s) (omega (arith, z .records-counted, z .allowed .records-high)) (q .0));
+                };
+          };
+    }
+  where
+    renumbered-small : (k : Record → Bool) (rs : List Record) → length rs ≤ 65536 → (y : ℕ) → Small (renumbered k rs y)
+    renumbered-small k rs l zero = omega arith
+    renumbered-small k rs l (suc i) =
+        case (k (getD rs i zero-record))
+        (λ e. rw e (omega (arith, length-keep k (take i rs), length-take i rs)))
+        (λ e. rw e (omega arith))
+
+pub step-kept : (s : Store) (q : Request) → Sound s → Whole q → Kept s (step s q .store)
+unfolding step doWrite doMark doRevert doRead doReclaim
+step-kept s (write a page) h w =
+    case (ltb a (s .head .size)) (λ e. rw e (written-kept s a page h w (ltb-true a (s .head .size) e))) (λ e. rw e (kept-none s))
+step-kept s mark h w =
+    case (ltb (s .head .now) open-end)
+    (λ e.
+    let l : s .head .now < open-end = ltb-true (s .head .now) open-end e in
+    rw e
+    (record {
+      branches = refl;
+      records = refl;
+      places = refl;
+      slab = refl;
+      narrow =
+          λ n.
+          record {
+            head = record { size = n .head .size; branches = n .head .branches; records = n .head .records; now = omega arith; floor = n .head .floor };
+            branches = n .branches;
+            records = n .records;
+            places = n .places;
+          };
+    }))
+    (λ e. rw e (kept-none s))
+step-kept s (revert m) h w =
+    case (readable s m)
+    (λ e₁.
+    case (leb (s .head .now) m)
+    (λ e. rw (e₁, e) (kept-none s))
+    (λ e₂.
+    case (leb open-end (s .head .now))
+    (λ e. rw (e₁, e₂, e) (kept-none s))
+    (λ e₃.
+    case (leb (length (s .branchRows)) (s .head .branches))
+    (λ e. rw (e₁, e₂, e₃, e) (kept-none s))
+    (λ e₄.
+    rw (e₁, e₂, e₃, e₄)
+    (branched-kept s m h (leb-false (s .head .now) m e₂) (leb-false open-end (s .head .now) e₃) (leb-false (length (s .branchRows)) (s .head .branches) e₄))))))
+    (λ e. rw e (kept-none s))
+step-kept s (readAt a m) h w =
+    kept-if s (ltb a (s .head .size)) _ _
+    (kept-if s (readable s m) _ _ (kept-if s (ltb (s .head .now) m) _ _ (kept-none s) (kept-none s)) (kept-none s)) (kept-none s)
+step-kept s (reclaim m) h w =
+    case (ltb m (s .head .floor))
+    (λ e. rw e (kept-none s))
+    (λ e₁.
+    case (ltb (s .head .now) m)
+    (λ e. rw (e₁, e) (kept-none s))
+    (λ e₂. rw (e₁, e₂) (reclaimed-kept s m h (ltb-false (s .head .now) m e₂))))
+
+-- and so does a batch, which leaves sound tables
+abbrev KeptSound : Store → Store → Type 0
+KeptSound s u = Kept s u × Sound u
+
+abbrev RunKeeps : ℕ → Type 0
+RunKeeps fuel = (s : Store) (input : List ℕ) (space : ℕ) → Sound s → KeptSound s (run fuel s input space .store)
+
+run-kept-suc : (fuel : ℕ) → RunKeeps fuel → RunKeeps (suc fuel)
+run-kept-suc fuel ih s input space h =
+    caseParsed (parse input)
+    (λ e. rw (run-end fuel s input space e) (kept-none s, h))
+    (λ n e. rw (run-stop fuel s input space n e) (kept-none s, h))
+    (λ q n e.
+    let w : Reads (length input) (one q n) = rw e at (parse-reads input) in
+    case (ltb space (length (answerBytes (step s q .answer))))
+    (λ d. rw (run-full fuel s input space q n e d) (kept-none s, h))
+    (λ d.
+    let k : KeptSound (step s q .store) (run fuel (step s q .store) (drop n input) (space - length (answerBytes (step s q .answer))) .store) =
+    ih (step s q .store) (drop n input) _ (step-sound s q h (w .0)) in
+    rw (run-one fuel s input space q n e d) (kept-then (step-kept s q h (w .0)) (k .0), k .1)))
+
+run-kept : (fuel : ℕ) → RunKeeps fuel
+run-kept zero = run-zero
+  where
+    run-zero : RunKeeps 0
+    run-zero s input space h = unfold run in (kept-none s, h)
+run-kept (suc fuel) = run-kept-suc fuel (run-kept fuel)
+
+pub batch-kept : (s : Store) (input : List ℕ) (space : ℕ) → Sound s → KeptSound s (batch s input space .store)
+batch-kept s input space h = rw (batch-run s input space (sound-check s h)) (run-kept (suc (length input)) s input space h)

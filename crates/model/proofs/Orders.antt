@@ -1,0 +1,89 @@
+-- The order in which refusals are tested: each number under its condition only, once those before it do not apply.
+use Prim.Native.Nat.{ℕ, _≤_, _<_}
+use mathlib.Core.Path.{_≡_}
+use mathlib.Core.List.{List}
+use mathlib.Core.Option.{none}
+use mathlib.Core.Bool.{true, false}
+use borrow.Author.Tests.{lt-ltb, le-ltb, le-leb, lt-leb}
+use lib.ListN.{length}
+use Rattle.model.specs.Store.{Store, open-end}
+use Rattle.model.specs.Lookup.{readable}
+use Rattle.model.specs.Soundness.{inRange, branchesSound, recordsSound, tableCheck}
+use Rattle.model.specs.Wire.{refused}
+use Rattle.model.specs.Step.{standing, firstFree, doWrite, doMark, doRevert, doRead, doReclaim}
+
+-- the table checks: 1, 2, 3
+module _ (s : Store) where
+  pub check-1 : inRange s ≡ false → tableCheck s ≡ 1
+  unfolding tableCheck
+  check-1 a = rw a
+
+  pub check-2 : inRange s ≡ true → branchesSound s ≡ false → tableCheck s ≡ 2
+  unfolding tableCheck
+  check-2 a b = rw (a, b)
+
+  pub check-3 : inRange s ≡ true → branchesSound s ≡ true → recordsSound s ≡ false → tableCheck s ≡ 3
+  unfolding tableCheck
+  check-3 a b c = rw (a, b, c)
+
+-- write: 4, 5, 6
+module _ (s : Store) (a : ℕ) (page : List ℕ) where
+  pub write-4 : s .head .size ≤ a → doWrite s a page .answer ≡ refused 4
+  unfolding doWrite
+  write-4 h = rw (le-ltb a (s .head .size) h)
+
+  pub write-5 : a < s .head .size → standing s a ≡ none → length (s .recordRows) ≤ s .head .records → doWrite s a page .answer ≡ refused 5
+  unfolding doWrite
+  write-5 h e l = rw (lt-ltb a (s .head .size) h, e, le-ltb (s .head .records) (length (s .recordRows)) l)
+
+  pub write-6 : a < s .head .size → standing s a ≡ none → s .head .records < length (s .recordRows) → firstFree (s .placeRows) ≡ none
+      → doWrite s a page .answer ≡ refused 6
+  unfolding doWrite
+  write-6 h e l f = rw (lt-ltb a (s .head .size) h, e, lt-ltb (s .head .records) (length (s .recordRows)) l, f)
+
+-- mark: 10
+pub mark-10 : (s : Store) → open-end ≤ s .head .now → doMark s .answer ≡ refused 10
+unfolding doMark
+mark-10 s h = rw (le-ltb (s .head .now) open-end h)
+
+-- revert: 8, 9, 10, 7
+module _ (s : Store) (m : ℕ) where
+  pub revert-8 : readable s m ≡ false → doRevert s m .answer ≡ refused 8
+  unfolding doRevert
+  revert-8 e = rw e
+
+  pub revert-9 : readable s m ≡ true → s .head .now ≤ m → doRevert s m .answer ≡ refused 9
+  unfolding doRevert
+  revert-9 e h = rw (e, le-leb (s .head .now) m h)
+
+  pub revert-10 : readable s m ≡ true → m < s .head .now → open-end ≤ s .head .now → doRevert s m .answer ≡ refused 10
+  unfolding doRevert
+  revert-10 e h t = rw (e, lt-leb (s .head .now) m h, le-leb open-end (s .head .now) t)
+
+  pub revert-7 : readable s m ≡ true → m < s .head .now → s .head .now < open-end → length (s .branchRows) ≤ s .head .branches → doRevert s m .answer ≡ refused 7
+  unfolding doRevert
+  revert-7 e h t f = rw (e, lt-leb (s .head .now) m h, lt-leb open-end (s .head .now) t, le-leb (length (s .branchRows)) (s .head .branches) f)
+
+-- read: 4, 8, 9
+module _ (s : Store) (a m : ℕ) where
+  pub read-4 : s .head .size ≤ a → doRead s a m .answer ≡ refused 4
+  unfolding doRead
+  read-4 h = rw (le-ltb a (s .head .size) h)
+
+  pub read-8 : a < s .head .size → readable s m ≡ false → doRead s a m .answer ≡ refused 8
+  unfolding doRead
+  read-8 h e = rw (lt-ltb a (s .head .size) h, e)
+
+  pub read-9 : a < s .head .size → readable s m ≡ true → s .head .now < m → doRead s a m .answer ≡ refused 9
+  unfolding doRead
+  read-9 h e l = rw (lt-ltb a (s .head .size) h, e, lt-ltb (s .head .now) m l)
+
+-- reclaim: 8, 9
+module _ (s : Store) (m : ℕ) where
+  pub reclaim-8 : m < s .head .floor → doReclaim s m .answer ≡ refused 8
+  unfolding doReclaim
+  reclaim-8 h = rw (lt-ltb m (s .head .floor) h)
+
+  pub reclaim-9 : s .head .floor ≤ m → s .head .now < m → doReclaim s m .answer ≡ refused 9
+  unfolding doReclaim
+  reclaim-9 h l = rw (le-ltb m (s .head .floor) h, lt-ltb (s .head .now) m l)

@@ -1,0 +1,3 @@
+pub mod Reach
+pub mod Last
+pub mod Order

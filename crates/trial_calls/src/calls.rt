@@ -1,0 +1,271 @@
+// The two calls of the store. What is lent to it is copied from the tables of numbers and bytes, and back.
+use crate::copies::at_most;
+use crate::copies::copy;
+use crate::copies::copy_bytes;
+use crate::copies::differing;
+use crate::copies::differing_bytes;
+use batch::Done;
+use fresh::Made;
+use model::Head;
+use trial_faults::faults;
+use trial_words::layout::ANSWERS;
+use trial_words::layout::AREA;
+use trial_words::layout::BRANCH_LENGTH;
+use trial_words::layout::BRANCH_TABLE;
+use trial_words::layout::Bytes;
+use trial_words::layout::HEAD;
+use trial_words::layout::INPUT;
+use trial_words::layout::INPUT_BYTES;
+use trial_words::layout::Numbers;
+use trial_words::layout::PLACE_LENGTH;
+use trial_words::layout::PLACE_TABLE;
+use trial_words::layout::RECORD_LENGTH;
+use trial_words::layout::RECORD_TABLE;
+use trial_words::layout::SIZE;
+use trial_words::layout::SLAB;
+use trial_words::layout::SLAB_LENGTH;
+use trial_words::layout::STOP;
+use trial_words::layout::TOUCHED;
+use trial_words::words::get;
+use trial_words::words::number_at;
+use trial_words::words::put;
+use trial_words::words::put_four;
+ghost use mathlib.Core.Path.{_≡_};
+ghost use lib.ListN.{length, getD};
+
+fn head(w: &Numbers) -> Head {
+    Head {
+        size: get(w, 0),
+        branches: get(w, 1),
+        records: get(w, 2),
+        now: get(w, 3),
+        floor: get(w, 4),
+    }
+}
+
+fn note_head(w: &mut Numbers, h: Head) {
+    put_four(w, HEAD, h.size, h.branches, h.records, h.now);
+    put(w, 4, h.floor);
+}
+
+fn number(n: usize) -> u32 {
+    (n % 4294967296) as u32
+}
+
+fn note(w: &mut Numbers, d: Done) {
+    note_head(w, d.head);
+    put_four(
+        w,
+        STOP,
+        d.stop,
+        number(d.answered),
+        number(d.taken),
+        number(d.sent),
+    );
+}
+
+// A table of numbers, from an index on.
+fn table(w: &[u32], at: u32) -> [u32; 64]
+    ensures { λ r. ⌜ length r ≡ 64 ⌝ }
+{
+    let mut t = [0u32; 64];
+    let start = at_most(at, w.len());
+    copy(&w[start..], &mut t);
+    t
+}
+
+fn slab_bytes(b: &[u8]) -> [u8; 4352]
+    ensures { λ r. ⌜ length r ≡ 4352 ⌝ }
+{
+    let mut t = [0u8; 4352];
+    let start = at_most(SLAB, b.len());
+    copy_bytes(&b[start..], &mut t);
+    t
+}
+
+fn input_bytes(b: &[u8]) -> [u8; 2304]
+    ensures { λ r. ⌜ length r ≡ 2304 ⌝ }
+{
+    let mut t = [0u8; 2304];
+    let start = at_most(INPUT_BYTES, b.len());
+    copy_bytes(&b[start..], &mut t);
+    t
+}
+
+fn blank_area() -> [u8; 4096]
+    ensures { λ r. ⌜ length r ≡ 4096 ⌝ }
+{
+    [165u8; 4096]
+}
+
+// A table goes back to its index. Answers how many of its numbers differ from what stands there.
+fn save(w: &mut [u32], at: u32, t: &[u32]) -> u32 {
+    let start = at_most(at, w.len());
+    let touched = differing(&w[start..], t);
+    copy(t, &mut w[start..]);
+    touched
+}
+
+fn save_tables(w: &mut Numbers, bt: &[u32; 64], rt: &[u32; 64], pt: &[u32; 64]) {
+    let branches = save(w, BRANCH_TABLE, bt);
+    let records = save(w, RECORD_TABLE, rt);
+    let places = save(w, PLACE_TABLE, pt);
+    put_four(w, TOUCHED, branches, records, places, 0);
+}
+
+fn save_slab(b: &mut [u8], t: &[u8]) -> u32 {
+    let start = at_most(SLAB, b.len());
+    let touched = differing_bytes(&b[start..], t);
+    copy_bytes(t, &mut b[start..]);
+    touched
+}
+
+fn save_answers(b: &mut [u8], t: &[u8]) {
+    let start = at_most(ANSWERS, b.len());
+    copy_bytes(t, &mut b[start..]);
+}
+
+// The lengths lent: of the three tables, the slab, the input and the answer area.
+struct Lengths {
+    branches: u32,
+    records: u32,
+    places: u32,
+    slab: u32,
+    input: u32,
+    area: u32,
+}
+
+fn lent_lengths(w: &Numbers) -> Lengths {
+    Lengths {
+        branches: get(w, BRANCH_LENGTH),
+        records: get(w, RECORD_LENGTH),
+        places: get(w, PLACE_LENGTH),
+        slab: get(w, SLAB_LENGTH),
+        input: get(w, INPUT),
+        area: get(w, AREA),
+    }
+}
+
+// A batch on parts of what is lent.
+fn batch_on(
+    h: Head,
+    l: Lengths,
+    bt: &mut [u32],
+    rt: &mut [u32],
+    pt: &mut [u32],
+    slab: &mut [u8],
+    input: &[u8],
+    answers: &mut [u8],
+) -> Done {
+    let lb = at_most(l.branches, bt.len());
+    let lr = at_most(l.records, rt.len());
+    let lp = at_most(l.places, pt.len());
+    let ls = at_most(l.slab, slab.len());
+    let li = at_most(l.input, input.len());
+    let la = at_most(l.area, answers.len());
+    batch::batch(
+        h,
+        &mut bt[..lb],
+        &mut rt[..lr],
+        &mut pt[..lp],
+        &mut slab[..ls],
+        &input[..li],
+        &mut answers[..la],
+    )
+}
+
+// A batch on copies of what is lent, and what it left.
+fn ask_on(
+    w: &mut Numbers,
+    b: &mut Bytes,
+    bt: &mut [u32; 64],
+    rt: &mut [u32; 64],
+    pt: &mut [u32; 64],
+    slab: &mut [u8; 4352],
+    answers: &mut [u8; 4096],
+) {
+    let input = input_bytes(b);
+    let d = batch_on(head(w), lent_lengths(w), bt, rt, pt, slab, &input, answers);
+    note(w, d);
+    faults::put_in_kept(w, b);
+}
+
+fn save_bytes(w: &mut Numbers, b: &mut Bytes, slab: &[u8; 4352], answers: &[u8; 4096]) {
+    let touched = save_slab(b, slab);
+    put(w, TOUCHED + 3, touched);
+    save_answers(b, answers);
+}
+
+fn ask_with(
+    w: &mut Numbers,
+    b: &mut Bytes,
+    bt: &mut [u32; 64],
+    rt: &mut [u32; 64],
+    pt: &mut [u32; 64],
+) {
+    let mut slab = slab_bytes(b);
+    let mut answers = blank_area();
+    ask_on(w, b, bt, rt, pt, &mut slab, &mut answers);
+    save_tables(w, bt, rt, pt);
+    save_bytes(w, b, &slab, &answers);
+}
+
+// A batch of the bytes handed in, and what it left. Answers the stop number.
+pub fn ask(w: &mut Numbers, b: &mut Bytes) -> u32
+    ensures { λ r. ⌜ r ≡ getD (now (w .exit)) 5 0 ⌝ }
+{
+    let mut bt = table(w, BRANCH_TABLE);
+    let mut rt = table(w, RECORD_TABLE);
+    let mut pt = table(w, PLACE_TABLE);
+    ask_with(w, b, &mut bt, &mut rt, &mut pt);
+    number_at(w, STOP)
+}
+
+// A fresh store over parts of what is lent.
+fn make_on(
+    h: Head,
+    size: u32,
+    l: Lengths,
+    bt: &mut [u32],
+    rt: &mut [u32],
+    pt: &mut [u32],
+    slab: &[u8],
+) -> Made {
+    let lb = at_most(l.branches, bt.len());
+    let lr = at_most(l.records, rt.len());
+    let lp = at_most(l.places, pt.len());
+    let ls = at_most(l.slab, slab.len());
+    fresh::make(
+        h,
+        size,
+        &mut bt[..lb],
+        &mut rt[..lr],
+        &mut pt[..lp],
+        &slab[..ls],
+    )
+}
+
+fn make_with(
+    w: &mut Numbers,
+    b: &Bytes,
+    bt: &mut [u32; 64],
+    rt: &mut [u32; 64],
+    pt: &mut [u32; 64],
+) {
+    let slab = slab_bytes(b);
+    let made = make_on(head(w), get(w, SIZE), lent_lengths(w), bt, rt, pt, &slab);
+    note_head(w, made.head);
+    put(w, STOP, made.refusal);
+}
+
+// A fresh store of the sizes on trial. Its refusal is noted as the stop number. Answers it.
+pub fn make(w: &mut Numbers, b: &Bytes) -> u32
+    ensures { λ r. ⌜ r ≡ getD (now (w .exit)) 5 0 ⌝ }
+{
+    let mut bt = table(w, BRANCH_TABLE);
+    let mut rt = table(w, RECORD_TABLE);
+    let mut pt = table(w, PLACE_TABLE);
+    make_with(w, b, &mut bt, &mut rt, &mut pt);
+    save_tables(w, &bt, &rt, &pt);
+    number_at(w, STOP)
+}

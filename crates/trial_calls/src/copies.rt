@@ -1,0 +1,63 @@
+// Numbers and bytes copied and compared, as many as both sides have.
+use trial_words::words::plus;
+ghost use Prim.Native.Nat.{_≤_};
+
+// A number as a length, at most another.
+pub(crate) fn at_most(n: u32, most: usize) -> usize
+    ensures { λ r. ⌜ r ≤ most ⌝ }
+{
+    let k = n as usize;
+    if k < most { k } else { most }
+}
+
+fn least(a: usize, b: usize) -> usize
+    ensures { λ r. ⌜ (r ≤ a) × (r ≤ b) ⌝ }
+{
+    if a < b { a } else { b }
+}
+
+// As many numbers as both have.
+pub(crate) fn copy(from: &[u32], to: &mut [u32]) {
+    let n = least(from.len(), to.len());
+    let mut i: usize = 0;
+    while i < n {
+        to[i] = from[i];
+        i += 1;
+    }
+}
+
+pub(crate) fn copy_bytes(from: &[u8], to: &mut [u8]) {
+    let n = least(from.len(), to.len());
+    let mut i: usize = 0;
+    while i < n {
+        to[i] = from[i];
+        i += 1;
+    }
+}
+
+fn one_where(yes: bool) -> u32 {
+    if yes { 1 } else { 0 }
+}
+
+// How many numbers differ, of as many as both have.
+pub(crate) fn differing(s: &[u32], t: &[u32]) -> u32 {
+    let n = least(s.len(), t.len());
+    let mut count: u32 = 0;
+    let mut i: usize = 0;
+    while i < n {
+        count = plus(count, one_where(s[i] != t[i]));
+        i += 1;
+    }
+    count
+}
+
+pub(crate) fn differing_bytes(s: &[u8], t: &[u8]) -> u32 {
+    let n = least(s.len(), t.len());
+    let mut count: u32 = 0;
+    let mut i: usize = 0;
+    while i < n {
+        count = plus(count, one_where(s[i] != t[i]));
+        i += 1;
+    }
+    count
+}

@@ -1,0 +1,3 @@
+// The calls of the store.
+pub mod calls;
+mod copies;

@@ -1,0 +1,111 @@
+// Changes of one number of a store before a batch: of the head, of the lengths lent, or of a table.
+use trial_words::layout::BRANCH_LENGTH;
+use trial_words::layout::BRANCH_ROWS;
+use trial_words::layout::BRANCH_TABLE;
+use trial_words::layout::CHANGE;
+use trial_words::layout::CHANGES;
+use trial_words::layout::HEAD;
+use trial_words::layout::HEAD_NOW;
+use trial_words::layout::LAST;
+use trial_words::layout::Numbers;
+use trial_words::layout::PLACE_ROWS;
+use trial_words::layout::PLACE_TABLE;
+use trial_words::layout::RECORD_ROWS;
+use trial_words::layout::RECORD_TABLE;
+use trial_words::layout::REPLACED;
+use trial_words::words::get;
+use trial_words::words::minus;
+use trial_words::words::number_at;
+use trial_words::words::plus;
+use trial_words::words::put;
+ghost use mathlib.Core.Path.{_≡_};
+ghost use lib.ListN.{getD};
+
+fn branch_numbers(w: &Numbers) -> u32 {
+    get(w, BRANCH_ROWS) % 4096 * 3
+}
+
+fn record_numbers(w: &Numbers) -> u32 {
+    get(w, RECORD_ROWS) % 4096 * 3
+}
+
+// How many changes the family tries: each of the numbers takes eight values.
+pub fn count(w: &Numbers) -> u32
+    ensures { λ r. ⌜ (getD (now (w .entry)) 57 0 ≡ 0 → r ≡ 0) ⌝ }
+{
+    if number_at(w, CHANGES) == 0 {
+        return 0;
+    }
+    let rows = plus(branch_numbers(w), record_numbers(w));
+    plus(9, plus(rows, get(w, PLACE_ROWS))) % 65536 * 8
+}
+
+// Where the c-th number stands: five of the head, four lengths, then the tables.
+fn place_of(w: &Numbers, c: u32) -> u32 {
+    if c < 5 {
+        return plus(HEAD, c);
+    }
+    if c < 9 {
+        return plus(BRANCH_LENGTH, minus(c, 5));
+    }
+    table_place(minus(c, 9), branch_numbers(w), record_numbers(w))
+}
+
+fn table_place(i: u32, branches: u32, records: u32) -> u32 {
+    if i < branches {
+        return plus(BRANCH_TABLE, i);
+    }
+    let k = minus(i, branches);
+    if k < records {
+        plus(RECORD_TABLE, k)
+    } else {
+        plus(PLACE_TABLE, minus(k, records))
+    }
+}
+
+fn value(now: u32, old: u32, v: u32) -> u32 {
+    match v {
+        0 => plus(old, 1),
+        1 => minus(old, 1),
+        2 => 0,
+        3 => 1,
+        4 => plus(old, 3),
+        5 => now,
+        6 => plus(now, 1),
+        _ => LAST,
+    }
+}
+
+// A length is at most that of what can be lent.
+fn limited(c: u32, n: u32) -> u32 {
+    if c < 5 {
+        return n;
+    }
+    if c < 8 {
+        return n % 65;
+    }
+    if c == 8 { n % 4353 } else { n }
+}
+
+// The present change is made, and the number that it replaces is noted and answered.
+pub fn make(w: &mut Numbers) -> u32
+    ensures { λ r. ⌜ r ≡ getD (now (w .exit)) 58 0 ⌝ }
+{
+    let change = get(w, CHANGE);
+    let at = place_of(w, change / 8);
+    let old = get(w, at);
+    let new = value(get(w, HEAD_NOW), old, change % 8);
+    put(w, REPLACED, old);
+    put(w, at, limited(change / 8, new));
+    number_at(w, REPLACED)
+}
+
+// The present change is undone. Answers the number that stands again.
+pub fn undo(w: &mut Numbers) -> u32
+    ensures { λ r. ⌜ r ≡ getD (now (w .entry)) 58 0 ⌝ }
+{
+    let at = place_of(w, get(w, CHANGE) / 8);
+    let old = number_at(w, REPLACED);
+    put(w, at, old);
+    old
+}

@@ -1,0 +1,203 @@
+// Faults put into what the store gave, so that the comparison is seen to find them: one to a list, and taken out after it.
+// A number or a byte is more than the store gave, or two records stand in each other's row.
+use trial_words::layout::ANSWERS;
+use trial_words::layout::AREA;
+use trial_words::layout::BRANCH_TABLE;
+use trial_words::layout::Bytes;
+use trial_words::layout::CHANGED;
+use trial_words::layout::FAULT;
+use trial_words::layout::FAULTS;
+use trial_words::layout::FAULTY;
+use trial_words::layout::FRESH;
+use trial_words::layout::HEAD;
+use trial_words::layout::HEAD_BRANCHES;
+use trial_words::layout::HEAD_NOW;
+use trial_words::layout::HEAD_RECORDS;
+use trial_words::layout::Numbers;
+use trial_words::layout::PLACE_TABLE;
+use trial_words::layout::PLAY;
+use trial_words::layout::RECORD_TABLE;
+use trial_words::layout::SLAB;
+use trial_words::layout::SPOT;
+use trial_words::layout::STOP;
+use trial_words::layout::TURN;
+use trial_words::layout::record_row;
+use trial_words::words::add;
+use trial_words::words::byte;
+use trial_words::words::get;
+use trial_words::words::minus;
+use trial_words::words::number_at;
+use trial_words::words::plus;
+use trial_words::words::put;
+use trial_words::words::put_byte;
+ghost use mathlib.Core.Path.{_≡_};
+ghost use lib.ListN.{getD};
+
+// The faults are numbered from 1, as the program `trials` names them.
+// Where a fault can stand: an index of the table of numbers; BYTES and an index of the table of bytes; two records in each other's row.
+const BYTES: u32 = 65536;
+
+const SWAPPED: u32 = 131072;
+
+const NOWHERE: u32 = 4294967295;
+
+// One, but two at the end of the first branch, which is the largest number.
+fn step(w: &Numbers) -> u32 {
+    if get(w, FAULT) == 32 { 2 } else { 1 }
+}
+
+fn spot(w: &Numbers, b: &Bytes, fault: u32) -> u32 {
+    let turn = get(w, TURN);
+    if turn == PLAY {
+        return in_batch(w, fault);
+    }
+    if turn == CHANGED {
+        return in_refused(fault);
+    }
+    if turn == FRESH {
+        return in_fresh(fault);
+    }
+    in_page(b, fault)
+}
+
+fn in_batch(w: &Numbers, fault: u32) -> u32 {
+    match fault {
+        1..=5 => plus(BYTES, plus(ANSWERS, minus(fault, 1))),
+        7..=10 => plus(STOP, minus(fault, 7)),
+        11..=15 => plus(HEAD, minus(fault, 11)),
+        16..=20 => in_record(w, fault, get(w, HEAD_RECORDS)),
+        21 => plus(BYTES, plus(ANSWERS, get(w, plus(STOP, 3)))),
+        22 => plus(BYTES, plus(ANSWERS, minus(get(w, AREA), 1))),
+        _ => NOWHERE,
+    }
+}
+
+fn in_record(w: &Numbers, fault: u32, records: u32) -> u32 {
+    if records == 0 {
+        return NOWHERE;
+    }
+    let at = record_row(minus(records, 1));
+    let place = get(w, plus(at, 2)) % 16;
+    match fault {
+        16 => at,
+        17 => plus(at, 1),
+        18 => if records == 1 { NOWHERE } else { SWAPPED },
+        19 => plus(BYTES, plus(SLAB, place * 256 + 255)),
+        _ => plus(PLACE_TABLE, place),
+    }
+}
+
+fn in_page(b: &Bytes, fault: u32) -> u32 {
+    if fault != 6 {
+        return NOWHERE;
+    }
+    if byte(b, ANSWERS) == 2 {
+        plus(BYTES, plus(ANSWERS, 260))
+    } else {
+        NOWHERE
+    }
+}
+
+fn in_refused(fault: u32) -> u32 {
+    match fault {
+        23 => STOP,
+        24 => HEAD_NOW,
+        29 => plus(BYTES, ANSWERS),
+        _ => NOWHERE,
+    }
+}
+
+fn in_fresh(fault: u32) -> u32 {
+    match fault {
+        30 => STOP,
+        31 => HEAD_BRANCHES,
+        32 => plus(BRANCH_TABLE, 1),
+        33 => RECORD_TABLE,
+        34 => PLACE_TABLE,
+        35 => plus(BRANCH_TABLE, 3),
+        _ => NOWHERE,
+    }
+}
+
+// The tables as they were before a batch on a changed store, so that the batch seems to have changed them.
+fn in_kept(fault: u32) -> u32 {
+    match fault {
+        25 => BRANCH_TABLE,
+        26 => RECORD_TABLE,
+        27 => PLACE_TABLE,
+        28 => plus(BYTES, SLAB),
+        _ => NOWHERE,
+    }
+}
+
+fn swap(w: &mut Numbers, i: u32, j: u32) {
+    let a = get(w, i);
+    let b = get(w, j);
+    put(w, i, b);
+    put(w, j, a);
+}
+
+fn swap_records(w: &mut Numbers) {
+    swap(w, RECORD_TABLE, RECORD_TABLE + 3);
+    swap(w, RECORD_TABLE + 1, RECORD_TABLE + 4);
+    swap(w, RECORD_TABLE + 2, RECORD_TABLE + 5);
+}
+
+fn shift(w: &mut Numbers, b: &mut Bytes, at: u32, by: u32) {
+    if at < BYTES {
+        add(w, at, by);
+        return;
+    }
+    if at < SWAPPED {
+        let i = minus(at, BYTES);
+        let v = byte(b, i);
+        put_byte(b, i, plus(v, by));
+        return;
+    }
+    if at == SWAPPED {
+        swap_records(w);
+    }
+}
+
+// The family's fault at a place, unless the list has had it.
+fn put_at(w: &mut Numbers, b: &mut Bytes, at: u32) {
+    put(w, SPOT, NOWHERE);
+    if get(w, FAULTY) == 0 {
+        if at != NOWHERE {
+            put(w, SPOT, at);
+            put(w, FAULTY, 1);
+            add(w, FAULTS, 1);
+            shift(w, b, at, step(w));
+        }
+    }
+}
+
+// Before a comparison. Answers where the fault was put.
+pub fn put_in(w: &mut Numbers, b: &mut Bytes) -> u32
+    ensures { λ r. ⌜ r ≡ getD (now (w .exit)) 60 0 ⌝ }
+{
+    let fault = get(w, FAULT);
+    let at = spot(w, b, fault);
+    put_at(w, b, at);
+    number_at(w, SPOT)
+}
+
+// Before the tables are compared with what they were. Answers where the last fault was put.
+pub fn put_in_kept(w: &mut Numbers, b: &mut Bytes) -> u32
+    ensures { λ r. ⌜ r ≡ getD (now (w .exit)) 60 0 ⌝ }
+{
+    let fault = get(w, FAULT);
+    if get(w, TURN) == CHANGED {
+        put_at(w, b, in_kept(fault));
+    }
+    number_at(w, SPOT)
+}
+
+// After a comparison. Answers where the fault was put.
+pub fn take_out(w: &mut Numbers, b: &mut Bytes) -> u32
+    ensures { λ r. ⌜ r ≡ getD (now (w .entry)) 60 0 ⌝ }
+{
+    let at = number_at(w, SPOT);
+    shift(w, b, at, minus(0, step(w)));
+    at
+}

@@ -1,0 +1,3 @@
+// What is put wrong on purpose: one number of a store before a batch, or what the store gave after it.
+pub mod changes;
+pub mod faults;

@@ -1,0 +1,218 @@
+// The reference's table checks: which of the stops 1, 2 and 3 is due for the head, the lengths and the tables as they stand.
+use trial_words::layout::BRANCH_LENGTH;
+use trial_words::layout::BRANCH_TABLE;
+use trial_words::layout::HEAD;
+use trial_words::layout::HEAD_BRANCHES;
+use trial_words::layout::HEAD_FLOOR;
+use trial_words::layout::HEAD_NOW;
+use trial_words::layout::HEAD_RECORDS;
+use trial_words::layout::LAST;
+use trial_words::layout::Numbers;
+use trial_words::layout::PLACE_LENGTH;
+use trial_words::layout::PLACE_TABLE;
+use trial_words::layout::RECORD_LENGTH;
+use trial_words::layout::SLAB_LENGTH;
+use trial_words::layout::record_row;
+use trial_words::words::get;
+use trial_words::words::minus;
+use trial_words::words::plus;
+
+// The stop that is due; 0 where the tables are sound.
+pub(crate) fn due(w: &Numbers) -> u32 {
+    if !lengths_right(w) {
+        return 1;
+    }
+    if !head_right(w) {
+        return 1;
+    }
+    if branches_wrong(w, get(w, HEAD_BRANCHES)) != 0 {
+        return 2;
+    }
+    if records_wrong(w, get(w, HEAD_RECORDS)) != 0 {
+        return 3;
+    }
+    if in_use(w, PLACE_TABLE, get(w, PLACE_LENGTH)) == get(w, HEAD_RECORDS) {
+        0
+    } else {
+        3
+    }
+}
+
+fn between(n: u32, least: u32, most: u32) -> bool {
+    if n < least { false } else { n <= most }
+}
+
+fn whole_rows(length: u32, most: u32) -> bool {
+    if length % 3 == 0 {
+        between(length / 3, 1, most)
+    } else {
+        false
+    }
+}
+
+fn lengths_right(w: &Numbers) -> bool {
+    let places = get(w, PLACE_LENGTH);
+    if !whole_rows(get(w, BRANCH_LENGTH), 4096) {
+        return false;
+    }
+    if !whole_rows(get(w, RECORD_LENGTH), 65536) {
+        return false;
+    }
+    if !between(places, 1, 65536) {
+        return false;
+    }
+    get(w, SLAB_LENGTH) == places % 65537 * 256
+}
+
+fn head_right(w: &Numbers) -> bool {
+    if !between(get(w, HEAD), 1, 65536) {
+        return false;
+    }
+    if !between(get(w, HEAD_BRANCHES), 1, get(w, BRANCH_LENGTH) / 3) {
+        return false;
+    }
+    if get(w, HEAD_RECORDS) > get(w, RECORD_LENGTH) / 3 {
+        return false;
+    }
+    get(w, HEAD_FLOOR) <= get(w, HEAD_NOW)
+}
+
+// How many of n branch rows are wrong.
+fn branches_wrong(w: &Numbers, n: u32) -> u32 {
+    let mut wrong: u32 = 0;
+    for i in 0..n {
+        wrong = plus(wrong, branch_wrong(w, i, n));
+    }
+    wrong
+}
+
+fn branch_wrong(w: &Numbers, i: u32, n: u32) -> u32 {
+    let start = get(w, branch_row(i));
+    let end = get(w, plus(branch_row(i), 1));
+    let cut = get(w, plus(branch_row(i), 2));
+    if start > end {
+        return 1;
+    }
+    if open_wrong(w, start, end, plus(i, 1) == n) {
+        return 1;
+    }
+    if i == 0 {
+        if start == 0 { cut } else { 1 }
+    } else {
+        later_wrong(w, i, start, cut)
+    }
+}
+
+// Only the last row is open, and it has begun.
+fn open_wrong(w: &Numbers, start: u32, end: u32, last: bool) -> bool {
+    if !last {
+        return end == LAST;
+    }
+    if end != LAST {
+        return true;
+    }
+    start > get(w, HEAD_NOW)
+}
+
+// A row that is not the first: it stands after the row before it, with no gap above the floor, and its cut is in an earlier row.
+fn later_wrong(w: &Numbers, i: u32, start: u32, cut: u32) -> u32 {
+    let end = get(w, plus(branch_row(minus(i, 1)), 1));
+    if start <= end {
+        return 1;
+    }
+    if start != plus(end, 1) {
+        if start > get(w, HEAD_FLOOR) {
+            return 1;
+        }
+    }
+    if holders(w, i, cut) == 0 { 1 } else { 0 }
+}
+
+// How many of the first n rows hold a moment.
+fn holders(w: &Numbers, n: u32, moment: u32) -> u32 {
+    let mut count: u32 = 0;
+    for i in 0..n {
+        count = plus(count, holds(w, i, moment));
+    }
+    count
+}
+
+fn holds(w: &Numbers, i: u32, moment: u32) -> u32 {
+    if moment < get(w, branch_row(i)) {
+        return 0;
+    }
+    if moment > get(w, plus(branch_row(i), 1)) {
+        0
+    } else {
+        1
+    }
+}
+
+// How many of n record rows are wrong.
+fn records_wrong(w: &Numbers, n: u32) -> u32 {
+    let mut wrong: u32 = 0;
+    for k in 0..n {
+        wrong = plus(wrong, record_wrong(w, k));
+    }
+    wrong
+}
+
+fn record_wrong(w: &Numbers, k: u32) -> u32 {
+    let moment = get(w, plus(record_row(k), 1));
+    if get(w, record_row(k)) >= get(w, HEAD) {
+        return 1;
+    }
+    if moment > get(w, HEAD_NOW) {
+        return 1;
+    }
+    if holders(w, get(w, HEAD_BRANCHES), moment) == 0 {
+        return 1;
+    }
+    if !after_previous(w, k) {
+        return 1;
+    }
+    place_wrong(w, k)
+}
+
+// The record's place is in the table, and the place row names the record.
+fn place_wrong(w: &Numbers, k: u32) -> u32 {
+    let place = get(w, plus(record_row(k), 2));
+    if place >= get(w, PLACE_LENGTH) {
+        return 1;
+    }
+    if get(w, plus(PLACE_TABLE, place)) == plus(k, 1) {
+        0
+    } else {
+        1
+    }
+}
+
+// Whether the record k stands after the one before it, by address, then by moment.
+fn after_previous(w: &Numbers, k: u32) -> bool {
+    if k == 0 {
+        return true;
+    }
+    let at = record_row(k);
+    let before = record_row(minus(k, 1));
+    if get(w, before) == get(w, at) {
+        get(w, plus(before, 1)) < get(w, plus(at, 1))
+    } else {
+        get(w, before) < get(w, at)
+    }
+}
+
+// How many of n numbers from an index on are not 0.
+pub(crate) fn in_use(w: &Numbers, at: u32, n: u32) -> u32 {
+    let mut count: u32 = 0;
+    for i in 0..n {
+        if get(w, plus(at, i)) != 0 {
+            count = plus(count, 1);
+        }
+    }
+    count
+}
+
+// The i-th row of the branch table, and of the record table.
+fn branch_row(i: u32) -> u32 {
+    BRANCH_TABLE + i % 65536 * 3
+}

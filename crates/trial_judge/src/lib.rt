@@ -1,0 +1,3 @@
+// The store against the reference.
+mod checks;
+pub mod judge;

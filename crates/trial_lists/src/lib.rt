@@ -1,0 +1,3 @@
+// The lists of requests, and their bytes.
+pub mod encoding;
+pub mod lists;

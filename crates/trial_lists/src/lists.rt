@@ -1,0 +1,271 @@
+// The lists of requests: every short one over an alphabet, and long ones from a generator.
+use trial_words::layout::AREA;
+use trial_words::layout::COUNT;
+use trial_words::layout::CUT;
+use trial_words::layout::FIRST;
+use trial_words::layout::LENGTH;
+use trial_words::layout::MODE;
+use trial_words::layout::NUMBER;
+use trial_words::layout::Numbers;
+use trial_words::layout::SEED;
+use trial_words::layout::SIZE;
+use trial_words::request::Request;
+use trial_words::request::plain;
+use trial_words::request::put_request;
+use trial_words::words::get;
+use trial_words::words::minus;
+use trial_words::words::number_at;
+use trial_words::words::plus;
+use trial_words::words::put;
+use trial_words::words::remainder;
+ghost use mathlib.Core.Path.{_≡_};
+ghost use Prim.Native.Nat.{_%_};
+ghost use lib.ListN.{length, getD};
+
+// The letters of the alphabets: the first 7, 10 or 18, or the last 5.
+fn letter(k: u32) -> Request {
+    match k {
+        0 => plain(1, 0, 0, 1),
+        1 => plain(2, 0, 0, 0),
+        2 => plain(3, 0, 0, 0),
+        3 => plain(3, 0, 1, 0),
+        4 => plain(5, 0, 1, 0),
+        5 => plain(5, 0, 2, 0),
+        6 => plain(1, 1, 0, 2),
+        7 => plain(1, 0, 0, 2),
+        8 => plain(3, 0, 2, 0),
+        9 => plain(5, 0, 3, 0),
+        10 => plain(1, 1, 0, 1),
+        11 => plain(3, 0, 3, 0),
+        12 => plain(5, 0, 0, 0),
+        13 => plain(4, 0, 0, 0),
+        14 => plain(4, 0, 1, 0),
+        15 => plain(4, 0, 2, 0),
+        16 => plain(4, 1, 3, 0),
+        17 => plain(1, 2, 0, 1),
+        18 => plain(1, 0, 0, 1),
+        19 => plain(2, 0, 0, 0),
+        20 => plain(3, 0, 0, 0),
+        21 => plain(5, 0, 1, 0),
+        _ => plain(4, 0, 0, 0),
+    }
+}
+
+// The k-th letter of the list.
+fn letter_at(k: u32) -> u32 {
+    96 + k % 16
+}
+
+// The letters of the list of a number.
+pub fn spell(w: &mut Numbers, number: u32, letters: u32)
+    ensures { λ _. ⌜ length (now (w .exit)) ≡ length (now (w .entry)) ⌝ }
+{
+    let mut rest = number;
+    for k in 0..8u32 {
+        put(w, letter_at(k), remainder(rest, letters));
+        rest = quotient(rest, letters);
+    }
+}
+
+fn put_letter(w: &mut Numbers, k: u32, from: u32) {
+    let l = plus(get(w, FIRST), get(w, letter_at(from)));
+    put_request(w, k, letter(l));
+}
+
+fn put_letters(w: &mut Numbers, n: u32) {
+    for k in 0..n {
+        put_letter(w, k, k);
+    }
+}
+
+// How many batches a list is handed in with: each request by itself, all at once, or as many as the family says.
+pub fn batches(w: &Numbers) -> u32
+    ensures { λ r. ⌜ (getD (now (w .entry)) 40 0 % 2 ≡ 1 → r ≡ 1) ⌝ }
+{
+    if number_at(w, MODE) % 2 == 1 {
+        1
+    } else {
+        get(w, LENGTH)
+    }
+}
+
+// The requests of the j-th batch of the list, and how much space its answers get. Answers how many.
+pub fn list_batch(w: &mut Numbers, j: u32) -> u32
+    ensures { λ r. ⌜ r ≡ getD (now (w .exit)) 28 0 ⌝ }
+{
+    let mode = get(w, MODE);
+    let n = get(w, LENGTH);
+    match mode {
+        0 => list_one(w, j),
+        1 => list_all(w, n),
+        3 => list_cut(w, n),
+        5 => list_space(w, n),
+        _ => list_drawn(w),
+    }
+    number_at(w, COUNT)
+}
+
+fn list_one(w: &mut Numbers, j: u32) {
+    put_letter(w, 0, j);
+    put(w, COUNT, 1);
+    put(w, AREA, 264);
+    put(w, CUT, 0);
+}
+
+fn list_all(w: &mut Numbers, n: u32) {
+    put_letters(w, n);
+    put(w, COUNT, n);
+    put(w, AREA, n % 16 * 261);
+    put(w, CUT, 0);
+}
+
+// The whole list, cut anywhere: at as many bytes as the list's number says.
+fn list_cut(w: &mut Numbers, n: u32) {
+    let by = get(w, NUMBER) / 125;
+    list_all(w, n);
+    put(w, CUT, by);
+}
+
+// The whole list, with as much space for answers as the list's number says.
+fn list_space(w: &mut Numbers, n: u32) {
+    let space = get(w, NUMBER) / 125;
+    list_all(w, n);
+    put(w, AREA, space);
+}
+
+// Up to 8 requests; one batch of eight is cut anywhere, and in one of six the answers have any space.
+fn list_drawn(w: &mut Numbers) {
+    let n = plus(draw(w, SEED, 8), 1);
+    draw_requests(w, n);
+    put(w, COUNT, n);
+    draw_cut(w);
+    draw_area(w, n % 16 * 261);
+}
+
+fn draw_cut(w: &mut Numbers) {
+    let short = draw(w, SEED, 8);
+    let some = draw(w, SEED, 65536);
+    put(w, CUT, if short == 0 { some } else { 0 });
+}
+
+fn draw_area(w: &mut Numbers, whole: u32) {
+    let scant = draw(w, SEED, 6);
+    let space = draw(w, SEED, 700);
+    put(w, AREA, if scant == 0 { space } else { whole });
+}
+
+fn draw_request(w: &mut Numbers, k: u32) {
+    let r = drawn(w);
+    put_request(w, k, r);
+}
+
+fn draw_requests(w: &mut Numbers, n: u32) {
+    for k in 0..n {
+        draw_request(w, k);
+    }
+}
+
+// Reverts and reclaims are the bulk. One in 64 has a bad operation, a spare bit or a field that its operation does not use.
+fn drawn(w: &mut Numbers) -> Request {
+    let kind = draw(w, SEED, 64);
+    let address = draw(w, SEED, plus(get(w, SIZE), past_end(kind)));
+    let value = draw(w, SEED, 256);
+    let moment = drawn_moment(w, often(kind));
+    if kind == 0 {
+        return drawn_bad(w, address, moment);
+    }
+    of_kind(kind, address, value, moment)
+}
+
+fn past_end(kind: u32) -> u32 {
+    if kind % 8 == 0 { 1 } else { 0 }
+}
+
+fn often(kind: u32) -> u32 {
+    if kind < 20 { 2 } else { 7 }
+}
+
+fn of_kind(kind: u32, address: u32, value: u32, moment: u32) -> Request {
+    match kind {
+        0..=19 => plain(3, 0, moment, 0),
+        20..=34 => plain(5, 0, moment, 0),
+        35..=51 => plain(1, address, 0, value),
+        52..=57 => plain(2, 0, 0, 0),
+        _ => plain(4, address, moment, 0),
+    }
+}
+
+// A moment from one below the floor to two above now; so often of eight times the floor or the moment after it.
+fn drawn_moment(w: &mut Numbers, often: u32) -> u32 {
+    let floor = trial_reference::floor(w);
+    let span = minus(trial_reference::now(w), floor);
+    let odds = draw(w, SEED, 8);
+    let wide = if odds < often { 2 } else { plus(span, 4) };
+    let step = draw(w, SEED, wide);
+    let edge = draw(w, SEED, 16);
+    if edge == 0 {
+        plus(floor, minus(step, 1))
+    } else {
+        plus(floor, remainder(step, plus(span, 1)))
+    }
+}
+
+fn drawn_bad(w: &mut Numbers, address: u32, moment: u32) -> Request {
+    let operation = draw(w, SEED, 8);
+    let bit = draw(w, SEED, 3);
+    Request {
+        operation,
+        address,
+        moment,
+        value: 0,
+        spare: if bit == 0 { 16 } else { 0 },
+    }
+}
+
+// Reads of every address at a moment, with space for every page. Answers how many.
+pub fn list_reads(w: &mut Numbers, moment: u32) -> u32
+    ensures { λ r. ⌜ r ≡ getD (now (w .exit)) 28 0 ⌝ }
+{
+    let size = get(w, SIZE);
+    read_each(w, size, moment);
+    put(w, COUNT, size);
+    put(w, AREA, size % 16 * 261);
+    put(w, CUT, 0);
+    number_at(w, COUNT)
+}
+
+fn list_read(w: &mut Numbers, a: u32, moment: u32) {
+    put_request(w, a, plain(4, a, moment, 0));
+}
+
+fn read_each(w: &mut Numbers, size: u32, moment: u32) {
+    for a in 0..size {
+        list_read(w, a, moment);
+    }
+}
+
+// One mark, for a batch on a changed store. Answers how many requests that is.
+pub fn list_mark(w: &mut Numbers) -> u32
+    ensures { λ r. ⌜ r ≡ getD (now (w .exit)) 28 0 ⌝ }
+{
+    put_request(w, 0, plain(2, 0, 0, 0));
+    put(w, COUNT, 1);
+    put(w, AREA, 264);
+    put(w, CUT, 0);
+    number_at(w, COUNT)
+}
+
+fn quotient(a: u32, b: u32) -> u32 {
+    if b == 0 { 0 } else { a / b }
+}
+
+// The next number of the generator, whose state stands at an index: below n.
+fn draw(t: &mut Numbers, i: u32, n: u32) -> u32 {
+    let s = scrambled(get(t, i));
+    put(t, i, s);
+    remainder(s / 65536, n)
+}
+
+fn scrambled(s: u32) -> u32 {
+    ((s as u64 * 69069 + 12345) % 4294967296) as u32
+}

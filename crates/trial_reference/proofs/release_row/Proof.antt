@@ -1,0 +1,42 @@
+-- `release_row` is safe and ends: fewer turns are left after each.
+use Prim.Native.Nat.{_-_}
+use native.Mathlib.Omega.{arith}
+use Rattle.trial_reference.proofs.release_row.Statement.{statement}
+use Rattle.trial_reference.proofs.release_row.Tie as tie
+
+abbrev Inv-loop : tie.InvT-loop
+Inv-loop w₀ i a₀ w a = Unit {0}
+
+abbrev μ-loop : tie.MeasureT-loop
+μ-loop w₀ i a₀ w a = 4 - a
+
+loop-holds : tie.Need-loop-holds Inv-loop μ-loop
+loop-holds c = tt
+
+release-requires : tie.Need-release-requires Inv-loop μ-loop
+release-requires c κs = tt
+
+add-a : tie.Need-add-a Inv-loop μ-loop
+add-a c = omega arith
+
+loop-less : tie.Need-loop-less Inv-loop μ-loop
+loop-less c = omega arith
+
+loop-again : tie.Need-loop-again Inv-loop μ-loop
+loop-again c = tt
+
+returns : tie.Need-returns Inv-loop μ-loop
+returns c = tt
+
+pub release-row-spec : {M : Type 1} → statement M
+release-row-spec =
+    tie.close
+    (tie.spec
+    Inv-loop
+    μ-loop
+    loop-holds
+    release-requires
+    add-a
+    loop-less
+    loop-again
+    returns)

@@ -1,0 +1,353 @@
+// The reference: a complete snapshot of the volume for each moment, the held pairs, now and floor; plain, and slow on purpose.
+// Beside them it keeps which branch each moment belongs to, since a revert is refused by the number of branches kept.
+use trial_words::layout::BASE;
+use trial_words::layout::BRANCH_ROWS;
+use trial_words::layout::FLOOR;
+use trial_words::layout::HELD;
+use trial_words::layout::KEPT;
+use trial_words::layout::LAST;
+use trial_words::layout::MADE;
+use trial_words::layout::NOW;
+use trial_words::layout::Numbers;
+use trial_words::layout::PLACE_ROWS;
+use trial_words::layout::RECORD_ROWS;
+use trial_words::layout::SIZE;
+use trial_words::layout::held_at;
+use trial_words::request::Request;
+use trial_words::words::add;
+use trial_words::words::get;
+use trial_words::words::minus;
+use trial_words::words::number_at;
+use trial_words::words::plus;
+use trial_words::words::put;
+use trial_words::words::put_four;
+use trial_words::words::put_two;
+ghost use mathlib.Core.Path.{_≡_};
+ghost use Prim.Native.Nat.{_+_, _%_, _<_, _≤_, _^_};
+ghost use lib.ListN.{length, getD};
+
+// The branch of a moment, the parent of a branch, and whether a branch is kept.
+fn branch_at(i: u32) -> u32 {
+    256 + i % 256
+}
+
+fn parent_at(b: u32) -> u32 {
+    512 + b % 256
+}
+
+fn kept_at(b: u32) -> u32 {
+    768 + b % 256
+}
+
+// A page of a snapshot: 0 or one more than its byte; then the moment of its write.
+fn page_at(i: u32, a: u32) -> u32 {
+    2048 + i % 256 * 8 + a % 4 * 2
+}
+
+// Whether a readable snapshot has the pair.
+fn stays_at(i: u32, a: u32) -> u32 {
+    4096 + i % 256 * 4 + a % 4
+}
+
+// The present moment, and the floor, as requests name them.
+pub fn now(w: &Numbers) -> u32
+    ensures { λ r. ⌜ r ≡ (getD (now (w .entry)) 20 0 + getD (now (w .entry)) 21 0) % 2 ^ 32 ⌝ }
+{
+    plus(number_at(w, BASE), number_at(w, NOW))
+}
+
+pub fn floor(w: &Numbers) -> u32
+    ensures { λ r. ⌜ r ≡ (getD (now (w .entry)) 20 0 + getD (now (w .entry)) 22 0) % 2 ^ 32 ⌝ }
+{
+    plus(number_at(w, BASE), number_at(w, FLOOR))
+}
+
+// The number of a moment's snapshot.
+pub fn index(w: &Numbers, moment: u32) -> u32
+    ensures { λ r. ⌜ (r + getD (now (w .entry)) 20 0) % 2 ^ 32 ≡ moment ⌝ }
+{
+    minus(moment, number_at(w, BASE))
+}
+
+// The reference of a fresh store.
+pub fn reset(w: &mut Numbers)
+    ensures { λ _. ⌜ length (now (w .exit)) ≡ length (now (w .entry)) ⌝ }
+{
+    put_two(w, NOW, 0, 0);
+    put_two(w, MADE, 1, 1);
+    put(w, HELD, 0);
+    reset_first(w);
+}
+
+fn reset_first(w: &mut Numbers)
+    ensures { λ _. ⌜ length (now (w .exit)) ≡ length (now (w .entry)) ⌝ }
+{
+    put(w, branch_at(0), 0);
+    put(w, parent_at(0), 0);
+    put(w, kept_at(0), 1);
+    clear_row(w, 0);
+}
+
+// No pair of a moment is held, and its snapshot has no page.
+fn clear_row(w: &mut Numbers, i: u32)
+    ensures { λ _. ⌜ length (now (w .exit)) ≡ length (now (w .entry)) ⌝ }
+{
+    put_four(w, held_at(i, 0), 0, 0, 0, 0);
+    put_four(w, page_at(i, 0), 0, 0, 0, 0);
+    put_four(w, page_at(i, 2), 0, 0, 0, 0);
+}
+
+fn copy_page(w: &mut Numbers, from: u32, to: u32, a: u32) {
+    let code = get(w, page_at(from, a));
+    let moment = get(w, plus(page_at(from, a), 1));
+    put_two(w, page_at(to, a), code, moment);
+}
+
+// A new snapshot, now+1, as a copy of a snapshot; it becomes the present one. Answers the moment sealed.
+fn advance(w: &mut Numbers, from: u32) -> u32 {
+    let sealed = now(w);
+    let to = plus(get(w, NOW), 1);
+    clear_row(w, to);
+    copy_all(w, from, to);
+    put(w, NOW, to);
+    sealed
+}
+
+fn copy_all(w: &mut Numbers, from: u32, to: u32) {
+    for a in 0..4u32 {
+        copy_page(w, from, to, a);
+    }
+}
+
+// One where a pair was not held before.
+fn newly(code: u32) -> u32 {
+    if code == 0 { 1 } else { 0 }
+}
+
+fn hold(w: &mut Numbers, i: u32, a: u32, code: u32) {
+    let at = held_at(i, a);
+    let more = newly(get(w, at));
+    add(w, HELD, more);
+    put(w, at, code);
+}
+
+fn write(w: &mut Numbers, a: u32, value: u32) -> u32 {
+    let i = get(w, NOW);
+    let code = value % 256 + 1;
+    hold(w, i, a, code);
+    put_two(w, page_at(i, a), code, i);
+    now(w)
+}
+
+fn mark(w: &mut Numbers) -> u32 {
+    let i = get(w, NOW);
+    let branch = get(w, branch_at(i));
+    put(w, branch_at(plus(i, 1)), branch);
+    advance(w, i)
+}
+
+fn revert(w: &mut Numbers, from: u32) -> u32 {
+    let parent = get(w, branch_at(from));
+    let made = get(w, MADE);
+    let i = plus(get(w, NOW), 1);
+    put(w, branch_at(i), made);
+    make_branch(w, made, parent);
+    advance(w, from)
+}
+
+fn make_branch(w: &mut Numbers, made: u32, parent: u32) {
+    put(w, parent_at(made), parent);
+    put(w, kept_at(made), 1);
+    put_two(w, MADE, plus(made, 1), plus(get(w, KEPT), 1));
+}
+
+// A held pair stays held exactly if a readable snapshot has its page. Answers how many pairs ceased to be held.
+fn reclaim(w: &mut Numbers, floor: u32) -> u32 {
+    let before = get(w, HELD);
+    let end = plus(get(w, NOW), 1);
+    put(w, FLOOR, floor);
+    see_readable(w, floor, end, get(w, MADE));
+    release_all(w, end);
+    minus(before, get(w, HELD))
+}
+
+fn see_readable(w: &mut Numbers, floor: u32, end: u32, made: u32) {
+    clear_stays(w, end);
+    clear_kept(w, made);
+    put(w, KEPT, 0);
+    see_all(w, floor, end);
+    count_kept(w, made);
+}
+
+fn clear_stays(w: &mut Numbers, end: u32) {
+    for i in 0..end {
+        put_four(w, stays_at(i, 0), 0, 0, 0, 0);
+    }
+}
+
+fn clear_kept(w: &mut Numbers, made: u32) {
+    for b in 0..made {
+        put(w, kept_at(b), 0);
+    }
+}
+
+// The pairs of each readable snapshot stay, and the branches on its way to the first.
+fn see_all(w: &mut Numbers, floor: u32, end: u32) {
+    for i in floor..end {
+        see(w, i);
+    }
+}
+
+fn see(w: &mut Numbers, i: u32) {
+    see_pages(w, i);
+    climb(w, get(w, branch_at(i)));
+}
+
+fn see_pages(w: &mut Numbers, i: u32) {
+    for a in 0..4u32 {
+        see_page(w, i, a);
+    }
+}
+
+fn see_page(w: &mut Numbers, i: u32, a: u32) {
+    if get(w, page_at(i, a)) != 0 {
+        let moment = get(w, plus(page_at(i, a), 1));
+        put(w, stays_at(moment, a), 1);
+    }
+}
+
+// A branch and its parents up to the first, which is branch 0, are kept.
+fn climb(w: &mut Numbers, branch: u32) {
+    let mut b = branch;
+    for _ in 0..256u32 {
+        put(w, kept_at(b), 1);
+        if b == 0 {
+            return;
+        }
+        b = get(w, parent_at(b));
+    }
+}
+
+fn count_branch(w: &mut Numbers, b: u32) {
+    let one = get(w, kept_at(b));
+    add(w, KEPT, one);
+}
+
+fn count_kept(w: &mut Numbers, made: u32) {
+    for b in 0..made {
+        count_branch(w, b);
+    }
+}
+
+fn release_all(w: &mut Numbers, end: u32) {
+    for i in 0..end {
+        release_row(w, i);
+    }
+}
+
+fn release_row(w: &mut Numbers, i: u32) {
+    for a in 0..4u32 {
+        release(w, i, a);
+    }
+}
+
+fn release(w: &mut Numbers, i: u32, a: u32) {
+    if get(w, held_at(i, a)) != 0 {
+        if get(w, stays_at(i, a)) == 0 {
+            put(w, held_at(i, a), 0);
+            add(w, HELD, LAST);
+        }
+    }
+}
+
+// A request that was answered and not refused. Answers the number due.
+pub fn feed(w: &mut Numbers, r: Request) -> u32
+    ensures { λ n. ⌜ (r .operation ≡ 4 → n ≡ r .moment) ⌝ }
+{
+    let i = index(w, r.moment);
+    let operation = r.operation;
+    match operation {
+        1 => write(w, r.address, r.value),
+        2 => mark(w),
+        3 => revert(w, i),
+        4 => r.moment,
+        5 => reclaim(w, i),
+        _ => 0,
+    }
+}
+
+// One more than the byte of the page that a read gives; 0 where there is none.
+pub fn page(w: &Numbers, r: Request) -> u32
+    ensures { λ n. ⌜ (r .operation < 4 → n ≡ 0) ⌝ }
+{
+    if r.operation == 4 {
+        get(w, page_at(index(w, r.moment), r.address))
+    } else {
+        0
+    }
+}
+
+// The refusal that is due.
+pub fn refusal(w: &Numbers, r: Request) -> u32
+    ensures { λ n. ⌜ n ≤ 10 ⌝ }
+{
+    let operation = r.operation;
+    match operation {
+        1 => write_refusal(w, r.address),
+        2 => if now(w) == LAST { 10 } else { 0 },
+        3 => revert_refusal(w, r.moment),
+        4 => if r.address >= get(w, SIZE) {
+            4
+        } else {
+            range_refusal(w, r.moment)
+        },
+        _ => range_refusal(w, r.moment),
+    }
+}
+
+fn write_refusal(w: &Numbers, a: u32) -> u32
+    ensures { λ n. ⌜ n ≤ 10 ⌝ }
+{
+    if a >= get(w, SIZE) {
+        return 4;
+    }
+    if get(w, held_at(get(w, NOW), a)) != 0 {
+        return 0;
+    }
+    if get(w, HELD) >= get(w, RECORD_ROWS) {
+        return 5;
+    }
+    if get(w, HELD) >= get(w, PLACE_ROWS) {
+        6
+    } else {
+        0
+    }
+}
+
+fn revert_refusal(w: &Numbers, moment: u32) -> u32
+    ensures { λ n. ⌜ n ≤ 10 ⌝ }
+{
+    if moment < floor(w) {
+        return 8;
+    }
+    if moment >= now(w) {
+        return 9;
+    }
+    if now(w) == LAST {
+        return 10;
+    }
+    if get(w, KEPT) >= get(w, BRANCH_ROWS) {
+        7
+    } else {
+        0
+    }
+}
+
+fn range_refusal(w: &Numbers, moment: u32) -> u32
+    ensures { λ n. ⌜ n ≤ 10 ⌝ }
+{
+    if moment < floor(w) {
+        return 8;
+    }
+    if moment > now(w) { 9 } else { 0 }
+}

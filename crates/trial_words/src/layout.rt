@@ -1,0 +1,183 @@
+// Where each number of a trial stands in its table of numbers, and each byte in its table of bytes.
+ghost use mathlib.Core.Path.{_≡_};
+ghost use Prim.Native.Nat.{_+_, _*_, _%_};
+
+// The two tables: what a trial knows and lends as numbers, and as bytes.
+pub type Numbers = [u32; 5376];
+
+pub type Bytes = [u8; 12288];
+
+// The store's head (5 numbers), and what its last batch reported.
+pub const HEAD: u32 = 0;
+
+pub const HEAD_BRANCHES: u32 = 1;
+
+pub const HEAD_RECORDS: u32 = 2;
+
+pub const HEAD_NOW: u32 = 3;
+
+pub const HEAD_FLOOR: u32 = 4;
+
+pub const STOP: u32 = 5;
+
+// The lengths lent: numbers of branch rows, of record rows, of place rows, and bytes of the slab.
+pub const BRANCH_LENGTH: u32 = 9;
+
+pub const RECORD_LENGTH: u32 = 10;
+
+pub const PLACE_LENGTH: u32 = 11;
+
+pub const SLAB_LENGTH: u32 = 12;
+
+// The sizes on trial: pages of the volume, branch rows, record rows, place rows.
+pub const SIZE: u32 = 16;
+
+pub const BRANCH_ROWS: u32 = 17;
+
+pub const RECORD_ROWS: u32 = 18;
+
+pub const PLACE_ROWS: u32 = 19;
+
+// The reference: moments count from the base; now and floor; branches made and branches kept; held pairs.
+pub const BASE: u32 = 20;
+
+pub const NOW: u32 = 21;
+
+pub const FLOOR: u32 = 22;
+
+pub const MADE: u32 = 23;
+
+pub const KEPT: u32 = 24;
+
+pub const HELD: u32 = 25;
+
+// The next batch: requests listed, bytes of all, bytes handed in, bytes of the answer area, and by what the bytes are cut (0: not).
+pub const COUNT: u32 = 28;
+
+pub const TOTAL: u32 = 29;
+
+pub const INPUT: u32 = 30;
+
+pub const AREA: u32 = 31;
+
+pub const CUT: u32 = 36;
+
+// What the reference expects of the batch: stop number, requests answered, their bytes, bytes of the answers.
+pub const DUE: u32 = 32;
+
+pub const ANSWERED: u32 = 33;
+
+pub const TAKEN: u32 = 34;
+
+pub const SENT: u32 = 35;
+
+// The family: how lists are made, letters, length, lists, seed, first letter; and the number of the present list.
+pub const MODE: u32 = 40;
+
+pub const LETTERS: u32 = 41;
+
+pub const LENGTH: u32 = 42;
+
+pub const LISTS: u32 = 43;
+
+pub const SEED: u32 = 44;
+
+pub const FIRST: u32 = 45;
+
+pub const NUMBER: u32 = 46;
+
+// The counts: lists run, their batches, lists that differ, differences in the present list, snapshots read back.
+pub const RUN: u32 = 48;
+
+pub const BATCHES: u32 = 49;
+
+pub const DIFFER: u32 = 50;
+
+pub const WRONG: u32 = 51;
+
+pub const READ: u32 = 52;
+
+// What the next turn does; the batch of the list, the snapshot to read back, the change to try.
+pub const TURN: u32 = 53;
+
+pub const BATCH: u32 = 54;
+
+pub const SNAPSHOT: u32 = 55;
+
+pub const CHANGE: u32 = 56;
+
+// Whether changes of one number are tried at the end of each list, and the number that the present one replaced.
+pub const CHANGES: u32 = 57;
+
+pub const REPLACED: u32 = 58;
+
+// The fault that the family puts in (0: none), where it stands, whether the present list has had it, and the lists that had it.
+pub const FAULT: u32 = 59;
+
+pub const SPOT: u32 = 60;
+
+pub const FAULTY: u32 = 61;
+
+pub const FAULTS: u32 = 62;
+
+// How often each refusal or stop came up.
+pub const SEEN: u32 = 64;
+
+// The head that is due (5 numbers), and how much a batch changed of each table and of the slab.
+pub const HEAD_DUE: u32 = 80;
+
+pub const TOUCHED: u32 = 88;
+
+// The tables that are lent to the store.
+pub const BRANCH_TABLE: u32 = 5120;
+
+pub const RECORD_TABLE: u32 = 5184;
+
+pub const PLACE_TABLE: u32 = 5248;
+
+// In the table of bytes: the slab, what is handed in, and the answer area.
+pub const SLAB: u32 = 0;
+
+pub const INPUT_BYTES: u32 = 4352;
+
+pub const ANSWERS: u32 = 8192;
+
+// What a turn does: a fresh store; the next batch of the list; a read of every address at a moment; a batch on a changed store.
+pub const FRESH: u32 = 0;
+
+pub const PLAY: u32 = 1;
+
+pub const READ_BACK: u32 = 2;
+
+pub const CHANGED: u32 = 3;
+
+pub const ENDED: u32 = 4;
+
+// The last moment, and the largest number.
+pub const LAST: u32 = 4294967295;
+
+// A batch that has not stopped.
+pub const RUNNING: u32 = 99;
+
+// What the answer area holds before a batch.
+pub const BLANK: u32 = 165;
+
+// The k-th request of the next batch: five numbers.
+pub(crate) fn request_at(k: u32) -> u32
+    ensures { λ r. ⌜ r ≡ 128 + k % 16 * 8 ⌝ }
+{
+    128 + k % 16 * 8
+}
+
+// A held pair: 0, or one more than the byte of its page.
+pub fn held_at(i: u32, a: u32) -> u32
+    ensures { λ r. ⌜ r ≡ 1024 + i % 256 * 4 + a % 4 ⌝ }
+{
+    1024 + i % 256 * 4 + a % 4
+}
+
+pub fn record_row(i: u32) -> u32
+    ensures { λ r. ⌜ r ≡ 5184 + i % 65536 * 3 ⌝ }
+{
+    RECORD_TABLE + i % 65536 * 3
+}

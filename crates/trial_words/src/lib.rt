@@ -1,0 +1,4 @@
+// The two tables of a trial, where each number stands in them, and the requests.
+pub mod layout;
+pub mod request;
+pub mod words;

@@ -1,0 +1,95 @@
+// The names of the families and of the faults, a line for each.
+use trial_words::words::minus;
+use trial_words::words::plus;
+
+// A family's name goes with the last row that counts in its line.
+pub(crate) fn say_family(k: u32) {
+    let names = b"18 letters, length 1 to 4, a batch each\n\
+18 letters, length 1 to 4, one batch\n\
+10 letters, length 5, a batch each\n\
+10 letters, length 5, one batch\n\
+7 letters, length 6, one batch\n\
+5 letters, length 3, one batch, every cut\n\
+5 letters, length 3, one batch, every answer area\n\
+drawn, 1 branch row\n\
+drawn, 3 branch rows\n\
+drawn, 6 branch rows\n\
+drawn, 16 branch rows\n\
+drawn, up to the last moment\n\
+18 letters, length 2, each number of the store changed\n\
+drawn, 16 branch rows, each number of the store changed";
+    let line: u32 = if k < 7 { 0 } else { minus(k, 6) };
+    say_line(names, line);
+    io::write_all(1, b": ");
+}
+
+pub(crate) fn say_fault(fault: u32) {
+    let names = b"\n\
+an answer's first byte\nthe number's first byte\nthe number's second byte\n\
+the number's third byte\nthe number's last byte\n\
+the last byte of a page read back\n\
+the stop number\nthe requests answered\n\
+the bytes of the requests\nthe bytes of the answers\n\
+the head's size\nthe head's branches\n\
+the head's records\nthe head's now\n\
+the head's floor\n\
+the last record's address\nthe last record's moment\n\
+the order of the first two records\n\
+the last byte of the last record's page\n\
+the last record's place row\n\
+the first byte past the answers\n\
+the last byte of the answer area\n\
+the stop number of a refused store\n\
+the head of a refused store\n\
+the branch rows of a refused store\n\
+the record rows of a refused store\n\
+the place rows of a refused store\n\
+the slab of a refused store\n\
+the answer area of a refused store\n\
+the refusal of a fresh store\n\
+the head of a fresh store\n\
+the end of the first branch of a fresh store\n\
+the record rows of a fresh store\n\
+the place rows of a fresh store\n\
+the other branch rows of a fresh store";
+    io::write_all(1, b"a fault in ");
+    say_line(names, fault);
+    io::write_all(1, b": put into ");
+}
+
+// The k-th line of a text, counted from 0.
+fn say_line(text: &[u8], k: u32) {
+    let mut line: u32 = 0;
+    for i in 0..2048u32 {
+        line = say_next(text, i, line, k);
+    }
+}
+
+fn wide(b: u8) -> u32 {
+    b as u32
+}
+
+// The i-th byte; 256 past the end.
+fn letter(text: &[u8], i: u32) -> u32 {
+    let k = i as usize;
+    if k < text.len() { wide(text[k]) } else { 256 }
+}
+
+// Writes the i-th byte where it is in the line k, and answers the line of the next byte.
+fn say_next(text: &[u8], i: u32, line: u32, k: u32) -> u32 {
+    let c = letter(text, i);
+    if c == 10 {
+        return plus(line, 1);
+    }
+    if line == k {
+        say_byte(c);
+    }
+    line
+}
+
+fn say_byte(c: u32) {
+    if c < 256 {
+        let one = [c as u8; 1];
+        io::write_all(1, &one);
+    }
+}

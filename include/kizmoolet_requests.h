@@ -1,0 +1,206 @@
+/*
+ * Requests packed and answers unpacked, for hosts of kizmoolet.h. All functions are inline: there is nothing to link.
+ *
+ *     struct kizmoolet_requests requests = kizmoolet_requests_in(batch, sizeof batch);
+ *     kizmoolet_add_write(&requests, 5, page);
+ *     kizmoolet_add_mark(&requests);
+ *     if (requests.failed)
+ *         .. a request could not be added: this is not the batch that was meant, do not send it ..
+ *     stop = kizmoolet_batch(.., batch, requests.length, answers, sizeof answers, &answered, &request_bytes, &answer_bytes);
+ *
+ *     struct kizmoolet_answers from = kizmoolet_answers_in(answers, (size_t)answer_bytes);
+ *     struct kizmoolet_answer answer;
+ *     while (kizmoolet_next_answer(&from, &answer) == 1)
+ *         .. answer.refusal, answer.number, answer.page ..
+ */
+#ifndef KIZMOOLET_REQUESTS_H
+#define KIZMOOLET_REQUESTS_H
+
+#include <stddef.h>
+#include <stdint.h>
+#include "kizmoolet.h"
+
+/* Requests in an area of the caller's, one behind the other. */
+struct kizmoolet_requests {
+    uint8_t *bytes;
+    size_t room;   /* the length of the area */
+    size_t length; /* the bytes of the requests added: what to pass as batch_len */
+    int failed;    /* 1 from the first request on that could not be added; none is added after it */
+};
+
+/* An answer. */
+struct kizmoolet_answer {
+    uint32_t refusal;    /* 0, or 4 to 10 */
+    uint32_t number;     /* 0 in a refusal */
+    const uint8_t *page; /* KIZMOOLET_PAGE_BYTES bytes in the answer area, or NULL */
+    size_t length;       /* the bytes of the answer, with its page */
+};
+
+/* Answers in an area of the caller's, one behind the other. */
+struct kizmoolet_answers {
+    const uint8_t *bytes;
+    size_t length; /* answer_bytes as the batch reported it */
+    size_t at;     /* where the next answer begins */
+};
+
+/* A number of head or tables, or of an answer. */
+static inline uint32_t kizmoolet_number_at(const uint8_t *from)
+{
+    return (uint32_t)from[0] << 24 | (uint32_t)from[1] << 16 | (uint32_t)from[2] << 8 | (uint32_t)from[3];
+}
+
+/* The present moment, and the earliest that can be read, from the 20 bytes of a head. */
+static inline uint32_t kizmoolet_now(const uint8_t *head)
+{
+    return kizmoolet_number_at(head + KIZMOOLET_HEAD_NOW_AT);
+}
+
+static inline uint32_t kizmoolet_floor(const uint8_t *head)
+{
+    return kizmoolet_number_at(head + KIZMOOLET_HEAD_FLOOR_AT);
+}
+
+/* An empty list of requests, to be added in this area. */
+static inline struct kizmoolet_requests kizmoolet_requests_in(uint8_t *bytes, size_t room)
+{
+    struct kizmoolet_requests requests;
+    requests.bytes = bytes;
+    requests.room = room;
+    requests.length = 0;
+    requests.failed = 0;
+    return requests;
+}
+
+/* Room for one more request of this many bytes; NULL, and the list has failed, where there is none. */
+static inline uint8_t *kizmoolet_add_room(struct kizmoolet_requests *to, size_t length)
+{
+    uint8_t *at;
+    if (to->failed || to->room - to->length < length) {
+        to->failed = 1;
+        return NULL;
+    }
+    at = to->bytes + to->length;
+    to->length += length;
+    return at;
+}
+
+/* The seven bytes of a request. A field that the operation does not use is to be given as 0, else the batch stops there with 13. */
+static inline void kizmoolet_pack(uint8_t *to, uint32_t operation, uint16_t address, uint32_t moment)
+{
+    to[0] = (uint8_t)((operation & 7u) << 5 | (uint32_t)address >> 11);
+    to[1] = (uint8_t)(address >> 3);
+    to[2] = (uint8_t)((address & 7u) << 5 | moment >> 27);
+    to[3] = (uint8_t)(moment >> 19);
+    to[4] = (uint8_t)(moment >> 11);
+    to[5] = (uint8_t)(moment >> 3);
+    to[6] = (uint8_t)((moment & 7u) << 5);
+}
+
+/*
+ * Each adds one request. Result: 1; or 0, and nothing is written, where the area is too short, where an address is above 65,535
+ * and has no place in a request, or where a request before could not be added. So one look at `failed` after the last is enough.
+ */
+static inline int kizmoolet_add_write(struct kizmoolet_requests *to, uint32_t address, const uint8_t *page)
+{
+    uint8_t *at;
+    size_t i;
+    if (address > 65535u)
+        to->failed = 1;
+    at = kizmoolet_add_room(to, KIZMOOLET_WRITE_BYTES);
+    if (at == NULL)
+        return 0;
+    kizmoolet_pack(at, KIZMOOLET_WRITE, (uint16_t)address, 0);
+    for (i = 0; i < KIZMOOLET_PAGE_BYTES; i++)
+        at[KIZMOOLET_REQUEST_BYTES + i] = page[i];
+    return 1;
+}
+
+static inline int kizmoolet_add_mark(struct kizmoolet_requests *to)
+{
+    uint8_t *at = kizmoolet_add_room(to, KIZMOOLET_REQUEST_BYTES);
+    if (at == NULL)
+        return 0;
+    kizmoolet_pack(at, KIZMOOLET_MARK, 0, 0);
+    return 1;
+}
+
+static inline int kizmoolet_add_revert(struct kizmoolet_requests *to, uint32_t moment)
+{
+    uint8_t *at = kizmoolet_add_room(to, KIZMOOLET_REQUEST_BYTES);
+    if (at == NULL)
+        return 0;
+    kizmoolet_pack(at, KIZMOOLET_REVERT, 0, moment);
+    return 1;
+}
+
+static inline int kizmoolet_add_read(struct kizmoolet_requests *to, uint32_t address, uint32_t moment)
+{
+    uint8_t *at;
+    if (address > 65535u)
+        to->failed = 1;
+    at = kizmoolet_add_room(to, KIZMOOLET_REQUEST_BYTES);
+    if (at == NULL)
+        return 0;
+    kizmoolet_pack(at, KIZMOOLET_READ, (uint16_t)address, moment);
+    return 1;
+}
+
+static inline int kizmoolet_add_reclaim(struct kizmoolet_requests *to, uint32_t moment)
+{
+    uint8_t *at = kizmoolet_add_room(to, KIZMOOLET_REQUEST_BYTES);
+    if (at == NULL)
+        return 0;
+    kizmoolet_pack(at, KIZMOOLET_RECLAIM, 0, moment);
+    return 1;
+}
+
+/* The answers in this area, from the first one on. */
+static inline struct kizmoolet_answers kizmoolet_answers_in(const uint8_t *bytes, size_t length)
+{
+    struct kizmoolet_answers answers;
+    answers.bytes = bytes;
+    answers.length = length;
+    answers.at = 0;
+    return answers;
+}
+
+/*
+ * The next answer. Result: 1; 0 where there is no more; -1 where the bytes that are left do not begin with a whole answer as the
+ * library writes them: cut short, a spare bit that is set, a refusal that is none of 4 to 10, a refusal with a number or a page.
+ * With 0 and -1 the answer is all zero, and the list stays where it is.
+ */
+static inline int kizmoolet_next_answer(struct kizmoolet_answers *from, struct kizmoolet_answer *answer)
+{
+    const uint8_t *at;
+    size_t left = from->length - from->at, length = KIZMOOLET_ANSWER_BYTES;
+    uint32_t refusal, number;
+    int page;
+    answer->refusal = 0;
+    answer->number = 0;
+    answer->page = NULL;
+    answer->length = 0;
+    if (left == 0)
+        return 0;
+    if (left < KIZMOOLET_ANSWER_BYTES)
+        return -1;
+    at = from->bytes + from->at;
+    refusal = (uint32_t)at[0] >> 2;
+    page = (at[0] & 2u) != 0;
+    number = kizmoolet_number_at(at + 1);
+    if (page)
+        length = KIZMOOLET_PAGE_ANSWER_BYTES;
+    if ((at[0] & 1u) != 0 || left < length)
+        return -1;
+    if (refusal != 0
+        && (refusal < KIZMOOLET_ADDRESS_TOO_HIGH || refusal > KIZMOOLET_MOMENTS_USED_UP || number != 0 || page))
+        return -1;
+    answer->refusal = refusal;
+    answer->number = number;
+    answer->length = length;
+    if (page)
+        answer->page = at + KIZMOOLET_ANSWER_BYTES;
+    from->at += length;
+    return 1;
+}
+
+#endif

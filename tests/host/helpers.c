@@ -1,0 +1,380 @@
+/* The constants of include/kizmoolet.h and the functions of include/kizmoolet_requests.h. Built as C99, with the sanitizers, and
+   as C++11.
+
+   1. Every request and answer that helpers/main.rs writes, packed and unpacked: the bytes are those of the reference; into an
+      area that is too short nothing is packed, and answers that are cut short are not unpacked.
+   2. Each of the numbers 0 to 14, by its name, comes from the library where the header says. */
+
+#include "kizmoolet.h"
+#include "kizmoolet_requests.h"
+
+#include <stdio.h>
+#include <stdlib.h>
+#include <string.h>
+
+enum { GUARD = 0x5C, ROOM = 1 << 20 };
+
+static unsigned long checks, wrong;
+
+#define CHECK(condition) check((condition) != 0, #condition, __LINE__)
+
+static void check(int good, const char *what, int line)
+{
+    checks++;
+    if (!good && ++wrong <= 20)
+        printf("  line %d: not so: %s\n", line, what);
+}
+
+static void fail(const char *what)
+{
+    fprintf(stderr, "helpers: %s\n", what);
+    exit(2);
+}
+
+static void get(void *to, size_t length)
+{
+    if (length != 0 && fread(to, 1, length, stdin) != length)
+        fail("the cases end early");
+}
+
+static uint64_t get_number(void)
+{
+    uint8_t bytes[8];
+    uint64_t number = 0;
+    int i;
+    get(bytes, 8);
+    for (i = 7; i >= 0; i--)
+        number = number << 8 | bytes[i];
+    return number;
+}
+
+static size_t get_area(uint8_t *to, size_t most)
+{
+    uint64_t length = get_number();
+    if (length > most)
+        fail("an area is too long");
+    get(to, (size_t)length);
+    return (size_t)length;
+}
+
+static int all_guard(const uint8_t *from, size_t length)
+{
+    size_t i;
+    for (i = 0; i < length; i++)
+        if (from[i] != GUARD)
+            return 0;
+    return 1;
+}
+
+static int add(struct kizmoolet_requests *to, uint64_t operation, uint32_t address, uint32_t moment, const uint8_t *page)
+{
+    switch (operation) {
+    case KIZMOOLET_WRITE:
+        return kizmoolet_add_write(to, address, page);
+    case KIZMOOLET_MARK:
+        return kizmoolet_add_mark(to);
+    case KIZMOOLET_REVERT:
+        return kizmoolet_add_revert(to, moment);
+    case KIZMOOLET_READ:
+        return kizmoolet_add_read(to, address, moment);
+    case KIZMOOLET_RECLAIM:
+        return kizmoolet_add_reclaim(to, moment);
+    default:
+        fail("no such operation");
+        return 0;
+    }
+}
+
+/* ---- 1. against the reference's bytes */
+
+static uint8_t all_requests[4u << 20], packed_requests[4u << 20]; /* all requests one behind the other, and the same packed */
+static size_t all_requests_len;
+static struct kizmoolet_requests all_packed;
+
+static void one_request(void)
+{
+    uint64_t operation = get_number();
+    uint32_t address = (uint32_t)get_number(), moment = (uint32_t)get_number();
+    uint8_t page[KIZMOOLET_PAGE_BYTES], bytes[KIZMOOLET_WRITE_BYTES], area[KIZMOOLET_WRITE_BYTES + 8];
+    size_t room, page_len = get_area(page, sizeof page), length = get_area(bytes, sizeof bytes);
+    CHECK((page_len != 0) == (operation == KIZMOOLET_WRITE));
+    CHECK(length == (page_len != 0 ? KIZMOOLET_WRITE_BYTES : KIZMOOLET_REQUEST_BYTES));
+    for (room = 0; room <= length + 1; room++) {
+        struct kizmoolet_requests to;
+        memset(area, GUARD, sizeof area);
+        to = kizmoolet_requests_in(area, room);
+        CHECK(add(&to, operation, address, moment, page) == (room >= length));
+        if (room >= length) {
+            CHECK(to.length == length && !to.failed);
+            CHECK(memcmp(area, bytes, length) == 0 && all_guard(area + length, sizeof area - length));
+        } else {
+            CHECK(to.length == 0 && to.failed);
+            CHECK(all_guard(area, sizeof area));
+            /* A list that has failed takes nothing more, also what would fit. */
+            to.room = sizeof area;
+            CHECK(kizmoolet_add_mark(&to) == 0 && to.length == 0 && all_guard(area, sizeof area));
+        }
+        if (room == KIZMOOLET_REQUEST_BYTES + 1 && length > room)
+            room = length - 3; /* not each of the page's bytes */
+    }
+    kizmoolet_pack(area, (uint32_t)operation, (uint16_t)address, moment);
+    CHECK(memcmp(area, bytes, KIZMOOLET_REQUEST_BYTES) == 0);
+    if (all_requests_len + length <= sizeof all_requests) {
+        memcpy(all_requests + all_requests_len, bytes, length);
+        all_requests_len += length;
+        CHECK(add(&all_packed, operation, address, moment, page) == 1);
+    }
+}
+
+static uint8_t all_answers[4u << 20]; /* all answers one behind the other */
+static size_t all_answers_len;
+static unsigned long answers_seen;
+
+static void one_answer(void)
+{
+    uint32_t refusal = (uint32_t)get_number(), number = (uint32_t)get_number();
+    uint8_t page[KIZMOOLET_PAGE_BYTES], bytes[KIZMOOLET_PAGE_ANSWER_BYTES];
+    size_t cut, page_len = get_area(page, sizeof page), length = get_area(bytes, sizeof bytes);
+    struct kizmoolet_answers from = kizmoolet_answers_in(bytes, length);
+    struct kizmoolet_answer answer;
+    unsigned bit;
+    CHECK(length == (page_len != 0 ? KIZMOOLET_PAGE_ANSWER_BYTES : KIZMOOLET_ANSWER_BYTES));
+    CHECK(kizmoolet_next_answer(&from, &answer) == 1);
+    CHECK(answer.refusal == refusal && answer.number == number && answer.length == length && from.at == length);
+    CHECK(page_len != 0 ? answer.page == bytes + KIZMOOLET_ANSWER_BYTES && memcmp(answer.page, page, page_len) == 0
+                        : answer.page == NULL);
+    CHECK(kizmoolet_next_answer(&from, &answer) == 0 && from.at == length);
+    CHECK(answer.refusal == 0 && answer.number == 0 && answer.page == NULL && answer.length == 0);
+    for (cut = 0; cut < length; cut++) {
+        /* An allocation of its own, so that the sanitizers see what is read past it. */
+        uint8_t *part = (uint8_t *)malloc(cut != 0 ? cut : 1);
+        if (part == NULL)
+            fail("no memory");
+        memcpy(part, bytes, cut);
+        from = kizmoolet_answers_in(part, cut);
+        CHECK(kizmoolet_next_answer(&from, &answer) == (cut == 0 ? 0 : -1));
+        CHECK(from.at == 0 && answer.refusal == 0 && answer.number == 0 && answer.page == NULL && answer.length == 0);
+        free(part);
+        if (cut == KIZMOOLET_ANSWER_BYTES + 1 && length > cut)
+            cut = length - 3; /* not each of the page's bytes */
+    }
+    if (all_answers_len + length <= sizeof all_answers) {
+        memcpy(all_answers + all_answers_len, bytes, length);
+        all_answers_len += length;
+        answers_seen++;
+    }
+    /* Bytes that the library never writes. */
+    bytes[0] |= 1;
+    from = kizmoolet_answers_in(bytes, length);
+    CHECK(kizmoolet_next_answer(&from, &answer) == -1 && from.at == 0);
+    for (bit = 0; bit < 64; bit++) {
+        uint8_t first = (uint8_t)(bit << 2 | (page_len != 0 ? 2u : 0u));
+        int good = bit == 0 || (bit >= 4 && bit <= 10 && page_len == 0 && number == 0);
+        bytes[0] = first;
+        from = kizmoolet_answers_in(bytes, length);
+        CHECK(kizmoolet_next_answer(&from, &answer) == (good ? 1 : -1));
+    }
+}
+
+static void reference_sizes(void)
+{
+    CHECK(get_number() == KIZMOOLET_PAGE_BYTES);
+    CHECK(get_number() == KIZMOOLET_HEAD_BYTES);
+    CHECK(get_number() == KIZMOOLET_BRANCH_BYTES);
+    CHECK(get_number() == KIZMOOLET_RECORD_BYTES);
+    CHECK(get_number() == KIZMOOLET_PLACE_BYTES);
+    CHECK(get_number() == KIZMOOLET_MOST_BRANCHES);
+    CHECK(get_number() == KIZMOOLET_MOST_RECORDS);
+    CHECK(get_number() == KIZMOOLET_MOST_PLACES);
+    CHECK(get_number() == KIZMOOLET_MOST_PAGES);
+    CHECK(get_number() == KIZMOOLET_LAST_MOMENT);
+}
+
+static void against_reference(void)
+{
+    unsigned long requests = 0, answers = 0;
+    struct kizmoolet_answers from;
+    struct kizmoolet_answer answer;
+    all_packed = kizmoolet_requests_in(packed_requests, sizeof packed_requests);
+    for (;;) {
+        uint8_t tag;
+        get(&tag, 1);
+        if (tag == 'K') {
+            reference_sizes();
+        } else if (tag == 'Q') {
+            one_request();
+            requests++;
+        } else if (tag == 'A') {
+            one_answer();
+            answers++;
+        } else if (tag == 'Z') {
+            break;
+        } else {
+            fail("no such record");
+        }
+    }
+    CHECK(all_packed.length == all_requests_len && !all_packed.failed);
+    CHECK(memcmp(packed_requests, all_requests, all_requests_len) == 0);
+    from = kizmoolet_answers_in(all_answers, all_answers_len);
+    while (kizmoolet_next_answer(&from, &answer) == 1)
+        answers_seen--;
+    CHECK(answers_seen == 0 && from.at == all_answers_len);
+    CHECK(requests > 10000 && answers > 4000);
+    printf("  %lu requests, %lu answers\n", requests, answers);
+}
+
+/* ---- 2. each number by its name */
+
+/* A store of the smallest tables, and some more. */
+static uint8_t head[KIZMOOLET_HEAD_BYTES], branches[KIZMOOLET_BRANCH_BYTES * 2], records[KIZMOOLET_RECORD_BYTES * 2];
+static uint8_t places[KIZMOOLET_PLACE_BYTES * 2], slab[KIZMOOLET_PAGE_BYTES * 2];
+static size_t branch_rows, record_rows, place_rows;
+static uint8_t batch[ROOM], answers_area[ROOM];
+static struct kizmoolet_requests list;
+static struct kizmoolet_answers answers;
+static uint64_t answered, request_bytes, answer_bytes;
+static const uint8_t letters[KIZMOOLET_PAGE_BYTES] = { 'A' };
+
+static void put_number(uint8_t *to, uint32_t number)
+{
+    to[0] = (uint8_t)(number >> 24);
+    to[1] = (uint8_t)(number >> 16);
+    to[2] = (uint8_t)(number >> 8);
+    to[3] = (uint8_t)number;
+}
+
+static void fresh(size_t branch_count, size_t record_count, size_t place_count)
+{
+    branch_rows = branch_count;
+    record_rows = record_count;
+    place_rows = place_count;
+    CHECK(kizmoolet_fresh(6, head, sizeof head, branches, KIZMOOLET_BRANCH_BYTES * branch_rows, records,
+              KIZMOOLET_RECORD_BYTES * record_rows, places, KIZMOOLET_PLACE_BYTES * place_rows, slab,
+              KIZMOOLET_PAGE_BYTES * place_rows)
+        == KIZMOOLET_OK);
+    list = kizmoolet_requests_in(batch, sizeof batch);
+}
+
+/* Sends the list, and begins a new one. */
+static uint32_t send_to(size_t room)
+{
+    uint32_t stop;
+    CHECK(!list.failed);
+    stop = kizmoolet_batch(head, sizeof head, branches, KIZMOOLET_BRANCH_BYTES * branch_rows, records,
+        KIZMOOLET_RECORD_BYTES * record_rows, places, KIZMOOLET_PLACE_BYTES * place_rows, slab,
+        KIZMOOLET_PAGE_BYTES * place_rows, batch, list.length, answers_area, room, &answered, &request_bytes, &answer_bytes);
+    list = kizmoolet_requests_in(batch, sizeof batch);
+    answers = kizmoolet_answers_in(answers_area, (size_t)answer_bytes);
+    return stop;
+}
+
+static uint32_t send_list(void)
+{
+    return send_to(sizeof answers_area);
+}
+
+/* The refusal of the next answer. */
+static uint32_t refused(void)
+{
+    struct kizmoolet_answer answer;
+    CHECK(kizmoolet_next_answer(&answers, &answer) == 1);
+    return answer.refusal;
+}
+
+static void by_name(void)
+{
+    struct kizmoolet_answer answer;
+    CHECK(kizmoolet_fresh(0, head, sizeof head, branches, sizeof branches, records, sizeof records, places, sizeof places,
+              slab, sizeof slab)
+        == KIZMOOLET_OUT_OF_RANGE);
+    CHECK(kizmoolet_fresh(KIZMOOLET_MOST_PAGES + 1, head, sizeof head, branches, sizeof branches, records, sizeof records,
+              places, sizeof places, slab, sizeof slab)
+        == KIZMOOLET_OUT_OF_RANGE);
+
+    fresh(2, 2, 2);
+    kizmoolet_add_write(&list, 5, letters);
+    kizmoolet_add_mark(&list);
+    kizmoolet_add_revert(&list, 0);
+    kizmoolet_add_read(&list, 5, 2);
+    kizmoolet_add_read(&list, 4, 2);
+    kizmoolet_add_reclaim(&list, 1);
+    CHECK(send_list() == KIZMOOLET_OK && answered == 6 && answer_bytes == 5 * 5 + KIZMOOLET_PAGE_ANSWER_BYTES);
+    CHECK(kizmoolet_next_answer(&answers, &answer) == 1 && answer.refusal == KIZMOOLET_OK && answer.number == 0);
+    CHECK(kizmoolet_next_answer(&answers, &answer) == 1 && answer.number == 0);
+    CHECK(kizmoolet_next_answer(&answers, &answer) == 1 && answer.number == 1);
+    CHECK(kizmoolet_next_answer(&answers, &answer) == 1 && answer.number == 2 && answer.page != NULL
+        && memcmp(answer.page, letters, sizeof letters) == 0);
+    CHECK(kizmoolet_next_answer(&answers, &answer) == 1 && answer.number == 2 && answer.page == NULL);
+    CHECK(kizmoolet_next_answer(&answers, &answer) == 1 && answer.number == 0);
+    CHECK(kizmoolet_next_answer(&answers, &answer) == 0);
+    CHECK(kizmoolet_now(head) == 2 && kizmoolet_floor(head) == 1);
+    CHECK(kizmoolet_number_at(head + KIZMOOLET_HEAD_PAGES_AT) == 6);
+    CHECK(kizmoolet_number_at(head + KIZMOOLET_HEAD_BRANCHES_AT) == 2);
+    CHECK(kizmoolet_number_at(head + KIZMOOLET_HEAD_RECORDS_AT) == 1);
+    kizmoolet_add_revert(&list, 0);
+    CHECK(send_list() == KIZMOOLET_OK && refused() == KIZMOOLET_MOMENT_TOO_EARLY);
+
+    fresh(1, 1, 1);
+    put_number(head + KIZMOOLET_HEAD_FLOOR_AT, 1);
+    CHECK(send_list() == KIZMOOLET_OUT_OF_RANGE);
+    fresh(1, 1, 1);
+    put_number(branches + 8, 1);
+    CHECK(send_list() == KIZMOOLET_BRANCHES_UNSOUND);
+    fresh(1, 1, 1);
+    put_number(places, 1);
+    CHECK(send_list() == KIZMOOLET_RECORDS_UNSOUND && answered == 0 && request_bytes == 0 && answer_bytes == 0);
+
+    fresh(1, 1, 2);
+    kizmoolet_add_read(&list, 6, 0);
+    kizmoolet_add_write(&list, 0, letters);
+    kizmoolet_add_write(&list, 1, letters);
+    CHECK(send_list() == KIZMOOLET_OK);
+    CHECK(refused() == KIZMOOLET_ADDRESS_TOO_HIGH && refused() == KIZMOOLET_OK && refused() == KIZMOOLET_RECORDS_FULL);
+    fresh(1, 2, 1);
+    kizmoolet_add_write(&list, 0, letters);
+    kizmoolet_add_write(&list, 1, letters);
+    CHECK(send_list() == KIZMOOLET_OK && refused() == KIZMOOLET_OK && refused() == KIZMOOLET_PLACES_FULL);
+    fresh(1, 1, 1);
+    kizmoolet_add_mark(&list);
+    kizmoolet_add_revert(&list, 0);
+    kizmoolet_add_read(&list, 0, 2);
+    CHECK(send_list() == KIZMOOLET_OK && refused() == KIZMOOLET_OK);
+    CHECK(refused() == KIZMOOLET_BRANCHES_FULL && refused() == KIZMOOLET_MOMENT_TOO_LATE);
+    fresh(2, 1, 1);
+    put_number(head + KIZMOOLET_HEAD_NOW_AT, KIZMOOLET_LAST_MOMENT);
+    kizmoolet_add_mark(&list);
+    CHECK(send_list() == KIZMOOLET_OK && refused() == KIZMOOLET_MOMENTS_USED_UP);
+
+    fresh(1, 1, 1);
+    kizmoolet_add_mark(&list);
+    list.length--;
+    CHECK(send_list() == KIZMOOLET_CUT_SHORT);
+    kizmoolet_pack(batch, 6, 0, 0);
+    list.length = KIZMOOLET_REQUEST_BYTES;
+    CHECK(send_list() == KIZMOOLET_NO_OPERATION);
+    kizmoolet_pack(batch, KIZMOOLET_MARK, 1, 0);
+    list.length = KIZMOOLET_REQUEST_BYTES;
+    CHECK(send_list() == KIZMOOLET_SPARE_BITS);
+    kizmoolet_add_mark(&list);
+    CHECK(send_to(KIZMOOLET_ANSWER_BYTES - 1) == KIZMOOLET_ANSWERS_FULL && answered == 0);
+
+    /* An address that has no place in a request is not cut down to one that has. */
+    kizmoolet_add_mark(&list);
+    CHECK(kizmoolet_add_write(&list, 65536, letters) == 0 && list.failed && list.length == KIZMOOLET_REQUEST_BYTES);
+    list = kizmoolet_requests_in(batch, sizeof batch);
+    CHECK(kizmoolet_add_read(&list, 65536 + 5, 0) == 0 && list.failed && list.length == 0);
+    CHECK(kizmoolet_add_reclaim(&list, 0) == 0 && list.length == 0);
+}
+
+int main(void)
+{
+    char version[32];
+    sprintf(version, "%d.%d.%d", KIZMOOLET_VERSION_MAJOR, KIZMOOLET_VERSION_MINOR, KIZMOOLET_VERSION_PATCH);
+    CHECK(strcmp(version, KIZMOOLET_VERSION) == 0);
+    CHECK(KIZMOOLET_WRITE_BYTES == KIZMOOLET_REQUEST_BYTES + KIZMOOLET_PAGE_BYTES);
+    CHECK(KIZMOOLET_PAGE_ANSWER_BYTES == KIZMOOLET_ANSWER_BYTES + KIZMOOLET_PAGE_BYTES);
+    against_reference();
+    by_name();
+    printf("  %lu checks, %lu wrong\n", checks, wrong);
+    return wrong == 0 ? 0 : 1;
+}

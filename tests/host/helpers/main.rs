@@ -1,0 +1,123 @@
+//! Writes requests and answers to standard output, each with its bytes, for the test of include/kizmoolet_requests.h. Every
+//! number is eight bytes, least significant first; an area is its length and its bytes. Records:
+//! K numbers                                   the reference's sizes
+//! Q operation address moment page bytes       a request as the reference reads these bytes; page empty if there is none
+//! A refusal number page bytes                 an answer and the bytes that the reference writes for it
+//! Z                                           the end
+
+use reference::*;
+use std::io::{BufWriter, StdoutLock, Write};
+
+struct Out(BufWriter<StdoutLock<'static>>);
+
+impl Out {
+    fn bytes(&mut self, bytes: &[u8]) {
+        if self.0.write_all(bytes).is_err() {
+            std::process::exit(2);
+        }
+    }
+
+    fn number(&mut self, number: u64) {
+        self.bytes(&number.to_le_bytes());
+    }
+
+    fn area(&mut self, area: &[u8]) {
+        self.number(area.len() as u64);
+        self.bytes(area);
+    }
+}
+
+/// Numbers that look drawn, from a seed.
+struct Drawn(u64);
+
+impl Drawn {
+    fn next(&mut self) -> u64 {
+        self.0 = self.0.wrapping_add(0x9E37_79B9_7F4A_7C15);
+        let mut mixed = self.0;
+        mixed = (mixed ^ mixed >> 30).wrapping_mul(0xBF58_476D_1CE4_E5B9);
+        mixed = (mixed ^ mixed >> 27).wrapping_mul(0x94D0_49BB_1331_11EB);
+        mixed ^ mixed >> 31
+    }
+
+    fn page(&mut self) -> Vec<u8> {
+        (0..PAGE).map(|_| self.next() as u8).collect()
+    }
+}
+
+/// The request that has these 48 bits between operation and spare, those cleared that the operation does not use.
+fn request(out: &mut Out, drawn: &mut Drawn, operation: u64, between: u64) {
+    let used = match operation {
+        1 => 0xFFFF_0000_0000,
+        2 => 0,
+        4 => 0xFFFF_FFFF_FFFF,
+        _ => 0x0000_FFFF_FFFF,
+    };
+    let packed = operation << 53 | (between & used) << 5;
+    let mut bytes = packed.to_be_bytes()[1..].to_vec();
+    if operation == 1 {
+        bytes.extend(drawn.page());
+    }
+    let (number, address, moment, page) = match read_request(&bytes) {
+        Ok((Request::Write { address, page }, 263)) => (1, address, 0, page),
+        Ok((Request::Mark, 7)) => (2, 0, 0, Vec::new()),
+        Ok((Request::Revert { moment }, 7)) => (3, 0, moment, Vec::new()),
+        Ok((Request::Read { address, moment }, 7)) => (4, address, moment, Vec::new()),
+        Ok((Request::Reclaim { moment }, 7)) => (5, 0, moment, Vec::new()),
+        other => panic!("the reference reads {other:?}"),
+    };
+    out.bytes(b"Q");
+    out.number(number);
+    out.number(u64::from(address));
+    out.number(u64::from(moment));
+    out.area(&page);
+    out.area(&bytes);
+}
+
+fn answer(out: &mut Out, refusal: u32, number: u32, page: Option<Vec<u8>>) {
+    let answer = Answer { refusal, number, page };
+    out.bytes(b"A");
+    out.number(u64::from(refusal));
+    out.number(u64::from(number));
+    out.area(answer.page.as_deref().unwrap_or(&[]));
+    out.area(&answer_bytes(&answer));
+}
+
+fn main() {
+    let seed = std::env::args().nth(1).and_then(|word| word.parse().ok()).expect("a seed");
+    let mut drawn = Drawn(seed);
+    let mut out = Out(BufWriter::with_capacity(1 << 20, std::io::stdout().lock()));
+    out.bytes(b"K");
+    for size in [PAGE, HEAD_BYTES, BRANCH_BYTES, RECORD_BYTES, PLACE_BYTES, MOST_BRANCHES, MOST_RECORDS, MOST_PLACES] {
+        out.number(size as u64);
+    }
+    out.number(u64::from(LARGEST_SIZE));
+    out.number(u64::from(OPEN_END));
+    for operation in 1..=5 {
+        // No bit, all bits, each bit alone, each bit missing, and any.
+        request(&mut out, &mut drawn, operation, 0);
+        request(&mut out, &mut drawn, operation, u64::MAX);
+        for bit in 0..48 {
+            request(&mut out, &mut drawn, operation, 1 << bit);
+            request(&mut out, &mut drawn, operation, !(1 << bit));
+        }
+        for _ in 0..2_000 {
+            let between = drawn.next();
+            request(&mut out, &mut drawn, operation, between);
+        }
+    }
+    for refusal in 4..=10 {
+        answer(&mut out, refusal, 0, None);
+    }
+    let mut numbers = vec![0, u32::MAX];
+    numbers.extend((0..32).map(|bit| 1 << bit));
+    numbers.extend((0..2_000).map(|_| drawn.next() as u32));
+    for number in numbers {
+        answer(&mut out, 0, number, None);
+        let page = drawn.page();
+        answer(&mut out, 0, number, Some(page));
+    }
+    out.bytes(b"Z");
+    if out.0.flush().is_err() {
+        std::process::exit(2);
+    }
+}
