@@ -117,30 +117,12 @@ static void make(struct areas *s, enum shape shape, uint32_t n, uint32_t b, uint
 
 /* ---- contenders */
 
-static uint32_t plain_fast(uint8_t *head, size_t head_len, uint8_t *branches, size_t branches_len, uint8_t *records, size_t records_len,
-    uint8_t *places, size_t places_len, uint8_t *slab, size_t slab_len, const uint8_t *batch, size_t batch_len,
-    uint8_t *answers, size_t answers_len, uint64_t *answered, uint64_t *request_bytes, uint64_t *answer_bytes)
-{
-    marks_by_groups = 0;
-    return plain_batch(head, head_len, branches, branches_len, records, records_len, places, places_len, slab, slab_len, batch, batch_len,
-        answers, answers_len, answered, request_bytes, answer_bytes);
-}
-
-static uint32_t plain_slow(uint8_t *head, size_t head_len, uint8_t *branches, size_t branches_len, uint8_t *records, size_t records_len,
-    uint8_t *places, size_t places_len, uint8_t *slab, size_t slab_len, const uint8_t *batch, size_t batch_len,
-    uint8_t *answers, size_t answers_len, uint64_t *answered, uint64_t *request_bytes, uint64_t *answer_bytes)
-{
-    marks_by_groups = 1;
-    return plain_batch(head, head_len, branches, branches_len, records, records_len, places, places_len, slab, slab_len, batch, batch_len,
-        answers, answers_len, answered, request_bytes, answer_bytes);
-}
-
 #ifdef BEFORE
 enum { LIBRARY, FAST, SLOW, EARLIER, CONTENDERS };
-static batch_function *const contenders[] = {kizmoolet_batch, plain_fast, plain_slow, before_batch};
+static batch_function *const contenders[] = {kizmoolet_batch, plain_batch, plain_batch, before_batch};
 #else
 enum { LIBRARY, FAST, SLOW, CONTENDERS };
-static batch_function *const contenders[] = {kizmoolet_batch, plain_fast, plain_slow};
+static batch_function *const contenders[] = {kizmoolet_batch, plain_batch, plain_batch};
 #endif
 
 static double seconds(void)
@@ -199,6 +181,7 @@ static void row(enum shape shape, uint32_t n, uint32_t b, int repetitions)
             int c = (turn + r) % CONTENDERS;
             uint64_t answered, taken, sent;
             restore(&s, first);
+            marks_by_groups = c == SLOW;
             double t = seconds();
             uint32_t stop = contenders[c](s.head, 20, s.branches, s.branches_len, s.records, s.records_len, s.places, s.places_len,
                 s.slab, s.slab_len, batch, 7, answers, sizeof answers, &answered, &taken, &sent);
