@@ -147,7 +147,7 @@ fn few_rows() -> [u32; 256]
     [0u32; 256]
 }
 
-// The bytes of nr records, where branches and moments are few: rooms of 14 KB.
+// The bytes of nr records, where branches and moments are few: rooms of 12 KB.
 fn mark_few(bt: &[u32], n: usize, wanted: &[u32], rt: &[u32], nr: usize, marks: &mut [u8])
     requires { ⌜ BranchesIn n (now bt) × (n ≤ 256) × (0 < n) × (length (now wanted) ≤ 257) × RecordsIn nr (now rt) × (nr ≤ length (now marks)) ⌝ }
     requires { ⌜ Line (branchRowsOf (now bt)) n ⌝ }
