@@ -1,6 +1,7 @@
 /* Times a call by itself: refused calls, an empty batch, batches of one request, a fresh store; beside each, in the same run, a
    memcpy of head and tables. Prints tables in Markdown. Built with BEFORE, it times an earlier archive too, whose functions are
-   renamed before_fresh and before_batch. Times are of the processor, not of the clock.
+   renamed before_fresh and before_batch; its answers may be those of a version without dates. Times are of the processor, not
+   of the clock.
    usage: calls [REPETITIONS]        by default 41, an odd number up to 201 */
 #define _POSIX_C_SOURCE 200809L
 #include <stdio.h>
@@ -152,13 +153,14 @@ static uint8_t *wrong_number(struct store *s, enum call call)
     }
 }
 
-static uint8_t answers[1024];
+static uint8_t answers[KIZMOOLET_PAGE_ANSWER_BYTES];
+static uint64_t answer_bytes;
 static uint8_t cleared[KIZMOOLET_MOST_BRANCHES * KIZMOOLET_BRANCH_BYTES + KIZMOOLET_MOST_RECORDS * KIZMOOLET_RECORD_BYTES
     + KIZMOOLET_MOST_PLACES * KIZMOOLET_PLACE_BYTES];
 
 static uint32_t one_call(struct store *s, const struct library *with, enum call call, const uint8_t *batch, size_t batch_len)
 {
-    uint64_t answered, request_bytes, answer_bytes;
+    uint64_t answered, request_bytes;
     size_t head_len = sizeof s->head - (call == HEAD_LENGTH);
     switch (call) {
     case COPY:
@@ -179,6 +181,16 @@ static uint32_t one_call(struct store *s, const struct library *with, enum call 
             s->places_len, s->slab, s->slab_len, batch, batch_len, answers, sizeof answers, &answered, &request_bytes,
             &answer_bytes);
     }
+}
+
+/* Whether a read of the first record has got a page and, from the present library, the record's moment as its date. */
+static int found_first(const struct store *s, size_t library)
+{
+    struct kizmoolet_answers from = kizmoolet_answers_in(answers, (size_t)answer_bytes);
+    struct kizmoolet_answer answer;
+    if (library > 0)
+        return answers[0] == 2 && answer_bytes >= KIZMOOLET_ANSWER_BYTES + KIZMOOLET_PAGE_BYTES;
+    return kizmoolet_next_answer(&from, &answer) == 1 && answer.page && answer.date == kizmoolet_number_at(s->records + 4);
 }
 
 static double seconds(void)
@@ -232,8 +244,8 @@ static void time_call(struct store *s, size_t library, enum call call, int repet
                 fail(names[call]);
         times[call][library][repetition] = (seconds() - began) / runs[call][library];
     }
-    if (call == ONE_READ && answers[0] != 2)
-        fail("the read finds no page");
+    if (call == ONE_READ && !found_first(s, library))
+        fail("the read finds no page, or not with its date");
     if (before) {
         memcpy(s->head, before, sizeof s->head);
         memcpy(s->branches, before + sizeof s->head, tables);
