@@ -125,7 +125,7 @@ put-page-requires c κs =
     let n = c .before .before .before in
     let f = found-from-head (head-from-number n) in
     let s = start-from-found f in
-    (simp (length-take {A = ℕ} (length (dated-area n) - 9) (drop 9 (dated-area n)), length-drop {A = ℕ} 9 (dated-area n)) (omega (arith, dated-length n, room f)), page-lies (s .args .r) (now (s .args .slab)) _ (f .found .given .1) (s .pre .1))
+    (simp (length-take, length-drop) (omega (arith, dated-length n, room f)), page-lies (s .args .r) (now (s .args .slab)) _ (f .found .given .1) (s .pre .1))
 
 same-length : tie.Need-same-length
 same-length c = search needs
