@@ -52,13 +52,12 @@ room c =
 put-head-requires-2 : tie.Need-put-head-requires-2
 put-head-requires-2 c κs = (omega (arith, room (c .before .before)), (start-from-found (c .before .before)) .pre .0, omega arith)
 
--- the five bytes of the head
+-- what stands in front at the end: the five bytes of the head, then the date
 abbrev head : tie.After-found → List ℕ
 head c =
     let s = start-from-found c in
     headBytes (s .args .r .refusal) 1 (s .args .r .value)
 
--- the date
 abbrev date : tie.After-found → List ℕ
 date c = bytes 4 (c .found .given .0 .0 .moment)
 
@@ -68,54 +67,56 @@ length-dated c =
     omega (arith, length-append (head c) (date c), length-head (s .args .r .refusal) 1 (s .args .r .value), length-bytes 4 (c .found .given .0 .0 .moment))
 
 -- the head leaves the area's length
-headed : (c : tie.After-put-head2) → length (c .put-head2 .last .0) ≡ length (now ((start-from-found (found-from-head c)) .args .out))
+headed : (c : tie.After-put-head2) → 265 ≤ length (c .put-head2 .last .0)
 headed c =
     let f = found-from-head c in
     let s = start-from-found f in
-    ap length (c .put-head2 .ensures)
-    ∙ length-front (head f) (now (s .args .out)) (omega (arith, length-head (s .args .r .refusal) 1 (s .args .r .value), room f))
+    let out = now (s .args .out) in
+    let fits : length (head f) ≤ length out = omega (arith, length-head (s .args .r .refusal) 1 (s .args .r .value), room f) in
+    omega (arith, ap length (c .put-head2 .ensures), length-front (head f) out fits, room f)
 
--- the area once the date stands behind the head
+-- the area with the date behind the head
 abbrev dated-area : tie.After-put-number → List ℕ
 dated-area c =
     let n = (head-from-number c) .put-head2 .last .0 in
     take 5 n ++ (c .put-number .last .0 ++ drop (length n - 5) (drop 5 n))
 
-dated : (c : tie.After-put-number) → dated-area c ≡ inFront (head (found-from-head (head-from-number c)) ++ date (found-from-head (head-from-number c))) (now ((start-from-found (found-from-head (head-from-number c))) .args .out))
-dated c =
-    let h = head-from-number c in
-    let f = found-from-head h in
-    let s = start-from-found f in
-    front-then (head f) (date f) (now (s .args .out)) (h .put-head2 .last .0) _ 5 (length-head (s .args .r .refusal) 1 (s .args .r .value)) (h .put-head2 .ensures) (c .put-number .ensures)
+module _ (c : tie.After-put-number) where
+  abbrev found : tie.After-found
+  found = found-from-head (head-from-number c)
 
-dated-length : (c : tie.After-put-number) → length (dated-area c) ≡ length (now ((start-from-found (found-from-head (head-from-number c))) .args .out))
-dated-length c =
-    let f = found-from-head (head-from-number c) in
-    ap length (dated c) ∙ length-front (head f ++ date f) (now ((start-from-found f) .args .out)) (omega (arith, length-dated f, room f))
+  abbrev area : List ℕ
+  area = now ((start-from-found found) .args .out)
+
+  dated : dated-area c ≡ inFront (head found ++ date found) area
+  dated =
+      let h = head-from-number c in
+      let s = start-from-found found in
+      front-then (head found) (date found) area (h .put-head2 .last .0) _ 5 (length-head (s .args .r .refusal) 1 (s .args .r .value))
+      (h .put-head2 .ensures) (c .put-number .ensures)
+
+  dated-room : 265 ≤ length (dated-area c)
+  dated-room =
+      let fits : length (head found ++ date found) ≤ length area = omega (arith, length-dated found, room found) in
+      omega (arith, ap length dated, length-front (head found ++ date found) area fits, room found)
 
 sub-put-number : tie.Need-sub-put-number
-sub-put-number c = omega (arith, headed (c .before .before), room (found-from-head (c .before .before)))
+sub-put-number c = omega (arith, headed (c .before .before))
 
 part-put-number-start : tie.Need-part-put-number-start
-part-put-number-start c = omega (arith, headed (c .before .before), room (found-from-head (c .before .before)))
+part-put-number-start c = omega (arith, headed (c .before .before))
 
 part-put-number-end : tie.Need-part-put-number-end
 part-put-number-end c = search needs
 
 put-number-requires : tie.Need-put-number-requires
-put-number-requires c κs =
-    let h = c .before .before .before in
-    simp (length-take, length-drop) (omega (arith, headed h, room (found-from-head h)))
+put-number-requires c κs = simp (length-take, length-drop) (omega (arith, headed (c .before .before .before)))
 
 sub-put-page : tie.Need-sub-put-page
-sub-put-page c =
-    let n = c .before .before in
-    omega (arith, dated-length n, room (found-from-head (head-from-number n)))
+sub-put-page c = omega (arith, dated-room (c .before .before))
 
 part-put-page-start : tie.Need-part-put-page-start
-part-put-page-start c =
-    let n = c .before .before in
-    omega (arith, dated-length n, room (found-from-head (head-from-number n)))
+part-put-page-start c = omega (arith, dated-room (c .before .before))
 
 part-put-page-end : tie.Need-part-put-page-end
 part-put-page-end c = search needs
@@ -125,7 +126,7 @@ put-page-requires c κs =
     let n = c .before .before .before in
     let f = found-from-head (head-from-number n) in
     let s = start-from-found f in
-    (simp (length-take, length-drop) (omega (arith, dated-length n, room f)), page-lies (s .args .r) (now (s .args .slab)) _ (f .found .given .1) (s .pre .1))
+    (simp (length-take, length-drop) (omega (arith, dated-room n)), page-lies (s .args .r) (now (s .args .slab)) _ (f .found .given .1) (s .pre .1))
 
 same-length : tie.Need-same-length
 same-length c = search needs
