@@ -1,5 +1,5 @@
 -- Requests and answers: what is sent is what is read.
-use Prim.Native.Nat.{ℕ, _+_, _^_, _<_}
+use Prim.Native.Nat.{ℕ, _+_, _^_, _<_, _≤_}
 use mathlib.Core.Path.{_≡_, refl, ap, _∙_}
 use mathlib.Core.List.{List, [], _∷_, _++_, append-assoc}
 use mathlib.Core.Option.{Option, some, none}
@@ -10,7 +10,7 @@ use lib.Dec.{leb}
 use lib.ListN.{length, take, drop, length-append}
 use lib.Seq.{take-at, drop-at}
 use borrow.Author.Tests.{le-leb}
-use Rattle.model.specs.Store.{Page}
+use Rattle.model.specs.Store.{Page, open-end}
 use Rattle.model.specs.Wire.{number, bytes, Field, packed, field, Request, write, mark, revert, readAt, reclaim, requestHead, requestBytes, one, byOperation, ofWord, parse, Answer, present, pageBytes, answerBytes}
 use Rattle.model.proofs.Packing.{number-bytes, length-bytes, Fit, bits, packed-fits, field-read}
 
@@ -102,16 +102,17 @@ abbrev pub PageRead : Option Page → List ℕ → Type 0
 PageRead none rest = rest ≡ []
 PageRead (some p) rest = (number 0 (take 4 rest) ≡ p .moment) × (drop 4 rest ≡ p .bytes)
 
--- the date has 32 bits
-abbrev pub DateFits : Option Page → Type 0
-DateFits none = Unit {0}
-DateFits (some p) = p .moment < 4294967296
+-- the date of a page, where there is one, is at most a moment
+abbrev pub DatedUpTo : ℕ → Option Page → Type 0
+DatedUpTo t none = Unit {0}
+DatedUpTo t (some p) = p .moment ≤ t
 
-pub page-round : (o : Option Page) → DateFits o → PageRead o (pageBytes o)
+pub page-round : (o : Option Page) → DatedUpTo open-end o → PageRead o (pageBytes o)
 page-round none h = refl
 page-round (some p) h =
-    let date : List ℕ = bytes 4 (p .moment) in (
-      rw (take-at date (p .bytes) 4 (length-bytes 4 (p .moment))) (number-bytes 4 0 (p .moment) ∙ (omega arith ∙ mod-eq-of-lt h)),
+    let date : List ℕ = bytes 4 (p .moment) in
+    let fits : p .moment < 4294967296 = omega arith in (
+      rw (take-at date (p .bytes) 4 (length-bytes 4 (p .moment))) (number-bytes 4 0 (p .moment) ∙ (omega arith ∙ mod-eq-of-lt fits)),
       drop-at date (p .bytes) 4 (length-bytes 4 (p .moment)),
     )
 
@@ -123,7 +124,7 @@ pub record AnswerRead (x : Answer) : Type 0 where
   pub value : field (number 0 (take 5 (answerBytes x))) 0 32 ≡ x .value
   pub page : PageRead (x .page) (drop 5 (answerBytes x))
 
-pub answer-round : (x : Answer) → x .refusal < 64 → x .value < 4294967296 → DateFits (x .page) → AnswerRead x
+pub answer-round : (x : Answer) → x .refusal < 64 → x .value < 4294967296 → DatedUpTo open-end (x .page) → AnswerRead x
 unfolding answerBytes
 answer-round x hr hv hd =
     let fit : Fit (answerFields x) = (hr, (present-fits (x .page), (omega arith, (hv, tt)))) in

@@ -24,7 +24,7 @@ use Rattle.model.proofs.Moves.{Stepping, mark-step, revert-step}
 use Rattle.model.proofs.Writing.{rows-falls, write-step}
 use Rattle.model.proofs.Reclaiming.{reclaim-step}
 use Rattle.model.proofs.Reading.{read-step}
-use Rattle.model.proofs.RoundTrip.{DateFits, AnswerRead, answer-round}
+use Rattle.model.proofs.RoundTrip.{DatedUpTo, AnswerRead, answer-round}
 
 step-canon : (s : Store) (snaps : ℕ → Snapshot) (q : Request) → Sound s → Reads s snaps → Whole q → Stepping s (referenceOf s snaps) q (step s q)
 unfolding step
@@ -48,11 +48,6 @@ step-check s q h w = sound-check (step s q .store) (step-sound s q h w)
 abbrev pub WholePage : Option Page → Type 0
 WholePage none = Unit {0}
 WholePage (some p) = length (p .bytes) ≡ 256
-
--- the date of a page, where there is one, is at most a moment
-abbrev pub DatedUpTo : ℕ → Option Page → Type 0
-DatedUpTo t none = Unit {0}
-DatedUpTo t (some p) = p .moment ≤ t
 
 -- a request's own refusals are at most 10, an answer with a page leaves the store, a page is whole, and its date is at most the
 -- answer's number, which is the moment asked
@@ -113,12 +108,12 @@ step-answers s (reclaim m) h =
     if-answers s (ltb m (s .head .floor)) _ _ (refused-answers s 8 (omega arith))
     (if-answers s (ltb (s .head .now) m) _ _ (refused-answers s 9 (omega arith)) (accepted-answers s _ _))
 
-date-fits : (t : ℕ) (o : Option Page) → DatedUpTo t o → t < 4294967296 → DateFits o
-date-fits t none h l = tt
-date-fits t (some p) h l = omega arith
+dated-later : (t u : ℕ) (o : Option Page) → t ≤ u → DatedUpTo t o → DatedUpTo u o
+dated-later t u none l h = tt
+dated-later t u (some p) l h = omega arith
 
 -- what a receiver reads of an answer is the answer: where its number has 32 bits, so has the date
 pub step-round : (s : Store) (q : Request) → Sound s → step s q .answer .value < 4294967296 → AnswerRead (step s q .answer)
 step-round s q h v =
     let w = step-answers s q h in
-    answer-round (step s q .answer) (omega (arith, w .small)) v (date-fits (step s q .answer .value) (step s q .answer .page) (w .dated) v)
+    answer-round (step s q .answer) (omega (arith, w .small)) v (dated-later (step s q .answer .value) open-end (step s q .answer .page) (omega arith) (w .dated))
