@@ -9,7 +9,7 @@ use Rattle.model.specs.Soundness.{sizesAllowed, inRange, chained, branchesSound
 use Rattle.model.specs.Wire.{readAt, number, bytes, packed, byOperation, parse, requestBytes, answerBytes}
 use Rattle.model.specs.Step.{firstFree, before, inserted, doWrite, doMark, branched, doRevert, doRead, reclaimed, doReclaim, step}
 use Rattle.model.specs.Batch.{run, batch}
-use Rattle.worked_examples.specs.Session.{letter, writes, marks, reverts, reads, reclaims, says, gives}
+use Rattle.worked_examples.specs.Session.{letter, writes, marks, reads, reclaims, says, gives}
 use Rattle.worked_examples.specs.Refusals.{Case, holds-all, row, rec, storeWith, plain, three}
 
 -- the four bytes of a moment that has none twice, and the moment
