@@ -21,7 +21,7 @@ late-moment = 16909060
 
 -- in order: the date is that of the write and not the moment asked, most significant byte first; so up to the last moment; an absent
 -- page has no date; a write over a page at one moment keeps its date, a later write has its own, and each moment its page's;
--- after a revert the date is that of the moment reverted to; a page that a reclaim keeps has its date still, below the floor
+-- after a revert a page has the date that it has at the moment reverted to; a page that a reclaim keeps has its date still, below the floor
 abbrev pub dates : List Case
 dates =
     record {
