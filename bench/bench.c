@@ -1,7 +1,8 @@
 /* Times the library and what it is compared with on the same batches, and prints tables in Markdown.
    usage: bench [RECORDS [BRANCHES [REPETITIONS]]]      the greatest sizes, by default 65536 4096 5
-   Each contender takes the same bytes; every answer is compared with the library's, and the tables that the library
-   and the plain implementation leave are compared byte for byte. Times are of the processor, not of the clock. */
+   Each contender takes the same bytes; every answer, number, date and page, is compared with the library's, and the tables
+   that the library and the plain implementation leave are compared byte for byte. Times are of the processor, not of the
+   clock. */
 #define _POSIX_C_SOURCE 200809L
 #include <math.h>
 #include <stdio.h>
@@ -16,6 +17,7 @@
 #define READS 1024u     /* reads of a timed batch */
 #define FEW 64u         /* the same for the databases */
 #define AFTER 32u       /* reads after a revert */
+#define DATES 32u       /* reads that are only compared */
 #define WEEK_ONE 32u    /* addresses that only the first week writes */
 #define POOL 4096u      /* addresses that the later weeks write */
 
@@ -199,12 +201,14 @@ static void make(struct made *s, enum shape shape, uint32_t n, uint32_t b)
     s->span = shape == DISTINCT ? count : shape == ONE ? GROUP : WEEK_ONE + POOL;
 }
 
-/* ---- the batches that are timed, one after the other on the same store */
+/* ---- the batches that are timed, one after the other on the same store, and behind them one that is only compared: the timed
+   reads find pages of moment 0 alone, and a date that is always 0 would pass */
 
-enum operation { OP_READS, OP_SINGLE, OP_REVERT, OP_GROUP, OP_RECLAIM, OPS };
+enum operation { OP_READS, OP_SINGLE, OP_REVERT, OP_GROUP, OP_RECLAIM, OPS, OP_DATES = OPS, BATCHES };
 static const char *const op_names[] = {
     "a read, of 1,024 in a batch", "a batch of one read", "a revert and 32 reads", "mark and 300 writes", "reclaim"};
-static const char *const op_short[] = {"read", "one-request batch", "revert and 32 reads", "mark and 300 writes", "reclaim"};
+static const char *const op_short[] = {
+    "read", "one-request batch", "revert and 32 reads", "mark and 300 writes", "reclaim", "pages of many dates"};
 
 static uint8_t *put_request(uint8_t *p, unsigned operation, uint32_t address, uint32_t moment)
 {
@@ -226,6 +230,24 @@ static uint32_t read_address(const struct made *s, uint32_t i)
     }
 }
 
+static uint32_t group_address(const struct made *s, uint32_t i)
+{
+    return (uint32_t)((uint64_t)i * s->span / GROUP);
+}
+
+/* A mark, so that no page is of the last moment; then reads, by turns at an address of the group and at one of the timed reads,
+   at the last moment and at earlier ones from the floor on. */
+static uint8_t *put_dates(const struct made *s, uint8_t *p)
+{
+    uint32_t last = s->now + 3; /* a revert and two marks later */
+    p = put_request(p, MARK, 0, 0);
+    for (uint32_t i = 0; i < DATES; i++) {
+        uint32_t address = i % 2 == 0 ? group_address(s, i * (GROUP / DATES)) : read_address(s, i);
+        p = put_request(p, READ, address, i % 4 == 0 ? last : s->middle + i * 40503u % (last - s->middle));
+    }
+    return p;
+}
+
 static size_t make_batch(const struct made *s, enum operation op, int slow, uint8_t *batch)
 {
     uint8_t *p = batch;
@@ -245,13 +267,16 @@ static size_t make_batch(const struct made *s, enum operation op, int slow, uint
     case OP_GROUP:
         p = put_request(p, MARK, 0, 0);
         for (uint32_t i = 0; i < GROUP; i++) {
-            p = put_request(p, WRITE, (uint32_t)((uint64_t)i * s->span / GROUP), 0);
+            p = put_request(p, WRITE, group_address(s, i), 0);
             memset(p, (int)(i % 256), PAGE);
             p += PAGE;
         }
         break;
-    default:
+    case OP_RECLAIM:
         p = put_request(p, RECLAIM, 0, s->middle);
+        break;
+    default:
+        p = put_dates(s, p);
     }
     return (size_t)(p - batch);
 }
@@ -282,20 +307,20 @@ static int by_value(const void *x, const void *y)
     return a < b ? -1 : a > b;
 }
 
-static uint8_t *expected[OPS]; /* the library's answers */
-static size_t expected_len[OPS];
-static double times[OPS][CONTENDERS][MOST_REPETITIONS * RUNS];
-static size_t time_count[OPS][CONTENDERS];
+static uint8_t *expected[BATCHES]; /* the library's answers */
+static size_t expected_len[BATCHES];
+static double times[BATCHES][CONTENDERS][MOST_REPETITIONS * RUNS];
+static size_t time_count[BATCHES][CONTENDERS];
 
-/* One pass of a contender over all operations, each on the store that the last one left; batches of reads change nothing, and
+/* One pass of a contender over all batches, each on the store that the last one left; batches of reads change nothing, and
    what is fast runs them several times. */
 static void time_pass(const struct made *s, size_t which)
 {
     static uint8_t batch[GROUP * (7 + PAGE) + 7 + READS * 7];
-    static uint8_t answers[READS * (5 + PAGE)];
+    static uint8_t answers[READS * KIZMOOLET_PAGE_ANSWER_BYTES];
     const struct contender *c = contenders[which];
     c->load(&s->areas);
-    for (int op = 0; op < OPS; op++) {
+    for (int op = 0; op < BATCHES; op++) {
         size_t batch_len = make_batch(s, op, c->slow, batch);
         int runs = !c->slow && (op == OP_READS || op == OP_SINGLE) ? RUNS : 1;
         for (int run = 0; run < runs; run++) {

@@ -1,6 +1,7 @@
 /* Times a call by itself: refused calls, an empty batch, batches of one request, a fresh store; beside each, in the same run, a
    memcpy of head and tables. Prints tables in Markdown. Built with BEFORE, it times an earlier archive too, whose functions are
-   renamed before_fresh and before_batch. Times are of the processor, not of the clock.
+   renamed before_fresh and before_batch; its answers may be those of a version without dates. Times are of the processor, not
+   of the clock.
    usage: calls [REPETITIONS]        by default 41, an odd number up to 201 */
 #define _POSIX_C_SOURCE 200809L
 #include <stdio.h>
@@ -116,7 +117,7 @@ static const struct library libraries[LIBRARIES] = {{kizmoolet_fresh, kizmoolet_
 static const struct library libraries[LIBRARIES] = {{kizmoolet_fresh, kizmoolet_batch}};
 #endif
 
-enum call { COPY, CLEAR, HEAD_LENGTH, FLOOR, FIRST_BRANCH, FIRST_RECORD, LAST_RECORD, FRESH_SIZE, FRESH, EMPTY, ONE_READ, ONE_MARK, CALLS };
+enum call { COPY, CLEAR, HEAD_LENGTH, FLOOR, FIRST_BRANCH, FIRST_RECORD, LAST_RECORD, FRESH_SIZE, FRESH, EMPTY, ONE_READ, MANY_READS, ONE_MARK, CALLS };
 
 static const char *const names[CALLS] = {
     "memcpy of head and tables",
@@ -130,10 +131,19 @@ static const char *const names[CALLS] = {
     "kizmoolet_fresh",
     "an empty batch",
     "a batch of one read that finds a page",
+    "a batch of 1,024 reads that find a page",
     "a batch of one mark",
 };
 
-static const uint32_t due[CALLS] = {0, 0, 1, 1, 2, 3, 3, 1, 0, 0, 0, 0};
+static const uint32_t due[CALLS] = {0, 0, 1, 1, 2, 3, 3, 1, 0, 0, 0, 0, 0};
+
+#define MANY 1024u /* reads of a batch */
+
+/* How many reads the batch of a call has. */
+static uint32_t reads_of(enum call call)
+{
+    return call == ONE_READ ? 1 : call == MANY_READS ? MANY : 0;
+}
 
 /* The number that is put wrong for a refused call, and back afterwards. */
 static uint8_t *wrong_number(struct store *s, enum call call)
@@ -152,13 +162,14 @@ static uint8_t *wrong_number(struct store *s, enum call call)
     }
 }
 
-static uint8_t answers[1024];
+static uint8_t answers[MANY * KIZMOOLET_PAGE_ANSWER_BYTES];
+static uint64_t answer_bytes;
 static uint8_t cleared[KIZMOOLET_MOST_BRANCHES * KIZMOOLET_BRANCH_BYTES + KIZMOOLET_MOST_RECORDS * KIZMOOLET_RECORD_BYTES
     + KIZMOOLET_MOST_PLACES * KIZMOOLET_PLACE_BYTES];
 
 static uint32_t one_call(struct store *s, const struct library *with, enum call call, const uint8_t *batch, size_t batch_len)
 {
-    uint64_t answered, request_bytes, answer_bytes;
+    uint64_t answered, request_bytes;
     size_t head_len = sizeof s->head - (call == HEAD_LENGTH);
     switch (call) {
     case COPY:
@@ -181,6 +192,16 @@ static uint32_t one_call(struct store *s, const struct library *with, enum call 
     }
 }
 
+/* Whether a read of the first record has got a page and, from the present library, the record's moment as its date. */
+static int found_first(const struct store *s, size_t library)
+{
+    struct kizmoolet_answers from = kizmoolet_answers_in(answers, (size_t)answer_bytes);
+    struct kizmoolet_answer answer;
+    if (library > 0)
+        return answers[0] == 2 && answer_bytes >= KIZMOOLET_ANSWER_BYTES + KIZMOOLET_PAGE_BYTES;
+    return kizmoolet_next_answer(&from, &answer) == 1 && answer.page && answer.date == kizmoolet_number_at(s->records + 4);
+}
+
 static double seconds(void)
 {
     struct timespec t;
@@ -200,13 +221,13 @@ static int by_value(const void *x, const void *y)
 /* So many calls one after the other that they take about a third of a millisecond; one at least. */
 static void time_call(struct store *s, size_t library, enum call call, int repetition)
 {
-    static uint8_t kept[4], batch[64];
+    static uint8_t kept[4], batch[MANY * KIZMOOLET_REQUEST_BYTES];
     static int runs[CALLS][LIBRARIES];
     struct kizmoolet_requests requests = kizmoolet_requests_in(batch, sizeof batch);
     uint8_t *wrong = wrong_number(s, call);
     uint8_t *before = NULL;
     size_t tables = s->branches_len + s->records_len + s->places_len;
-    if (call == ONE_READ) /* the first record, at its own moment */
+    for (uint32_t i = 0; i < reads_of(call); i++) /* the first record, at its own moment */
         kizmoolet_add_read(&requests, kizmoolet_number_at(s->records), kizmoolet_number_at(s->records + 4));
     if (call == ONE_MARK)
         kizmoolet_add_mark(&requests);
@@ -232,8 +253,8 @@ static void time_call(struct store *s, size_t library, enum call call, int repet
                 fail(names[call]);
         times[call][library][repetition] = (seconds() - began) / runs[call][library];
     }
-    if (call == ONE_READ && answers[0] != 2)
-        fail("the read finds no page");
+    if (reads_of(call) > 0 && !found_first(s, library))
+        fail("the read finds no page, or not with its date");
     if (before) {
         memcpy(s->head, before, sizeof s->head);
         memcpy(s->branches, before + sizeof s->head, tables);
@@ -256,9 +277,9 @@ static const char *shown(double t)
 }
 
 /* A store that has no record has none to put wrong or to read. */
-static int left_out(int call, int used)
+static int left_out(enum call call, int used)
 {
-    return !used && (call == FIRST_RECORD || call == LAST_RECORD || call == ONE_READ);
+    return !used && (call == FIRST_RECORD || call == LAST_RECORD || reads_of(call) > 0);
 }
 
 static void time_store(const char *name, struct store *s, int used, int repetitions)

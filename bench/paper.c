@@ -1,6 +1,6 @@
 /* (a) Document 004's own design on Berkeley DB, in memory: three B-trees and a repository device.
    branch table  key start of the branch (its number)   data end, parent's start, cut
-   lpmap         key address, moment                    data place
+   lpmap         key address, moment                    data place; the moment found is the page's date
    free extents  key first place                        data length
    Keys are four bytes a number, most significant first, so that their order is the numbers'. No table check, no
    refusals. `paper` looks up as Figure 1 has it, a search of the lpmap for each branch on the way; `paper_short` keeps
@@ -124,7 +124,7 @@ static void drop(void)
     free(slab);
 }
 
-static const uint8_t *lookup(DBC *c, uint32_t address, uint32_t moment, int keep)
+static struct found lookup(DBC *c, uint32_t address, uint32_t moment, int keep)
 {
     uint8_t row[12], key[8], place[4];
     uint32_t start = start_of_holder(moment, row);
@@ -136,15 +136,15 @@ static const uint8_t *lookup(DBC *c, uint32_t address, uint32_t moment, int keep
             int some = at_or_before(c, key, 8, place, 4) && get32(key) == address;
             searched = 1;
             if (!some && keep)
-                return NULL; /* nor is there any for an earlier moment */
+                return NOTHING; /* nor is there any for an earlier moment */
             if (!some)
                 goto parent;
         }
         if (get32(key + 4) >= start)
-            return slab + PAGE * get32(place);
+            return (struct found){slab + PAGE * get32(place), get32(key + 4)};
     parent:
         if (start == 0)
-            return NULL;
+            return NOTHING;
         start = get32(row + 4);
         moment = get32(row + 8);
         uint8_t number[4];
@@ -265,7 +265,7 @@ static size_t run_with(const uint8_t *batch, size_t batch_len, uint8_t *answers,
     for (size_t at = 0; at < batch_len; at += 7) {
         struct request q = request_at(batch + at);
         uint32_t number = now;
-        const uint8_t *page = NULL;
+        struct found found = NOTHING;
         switch (q.operation) {
         case WRITE:
             write_page(q.address, batch + at + 7);
@@ -279,13 +279,13 @@ static size_t run_with(const uint8_t *batch, size_t batch_len, uint8_t *answers,
             break;
         case READ:
             number = q.moment;
-            page = lookup(c, q.address, q.moment, keep);
+            found = lookup(c, q.address, q.moment, keep);
             break;
         case RECLAIM:
             number = reclaim(q.moment);
             break;
         }
-        out = put_answer(out, 0, number, page);
+        out = put_answer(out, 0, number, found);
     }
     ok(c->close(c));
     return (size_t)(out - answers);

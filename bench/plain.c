@@ -92,7 +92,7 @@ static size_t up_to(const struct areas *s, uint32_t address, uint32_t moment)
     return lo;
 }
 
-static const uint8_t *lookup(const struct areas *s, uint32_t address, uint32_t moment)
+static struct found lookup(const struct areas *s, uint32_t address, uint32_t moment)
 {
     size_t j = up_to(s, address, moment);
     for (size_t i = head_branches(s); i-- > 0;) {
@@ -102,17 +102,17 @@ static const uint8_t *lookup(const struct areas *s, uint32_t address, uint32_t m
         while (j > 0) {
             struct record r = record_at(s, j - 1);
             if (r.address != address)
-                return NULL;
+                return NOTHING;
             if (r.moment <= moment) {
                 if (r.moment >= b.start)
-                    return s->slab + PAGE * r.place;
+                    return (struct found){s->slab + PAGE * r.place, r.moment};
                 break;
             }
             j--;
         }
         moment = b.cut;
     }
-    return NULL;
+    return NOTHING;
 }
 
 static unsigned write_page(struct areas *s, uint32_t address, const uint8_t *page)
@@ -236,13 +236,13 @@ uint32_t plain_batch(uint8_t *head, size_t head_len, uint8_t *branches, size_t b
     size_t at = 0, out = 0;
     while (at < batch_len) {
         struct request q;
-        const uint8_t *page = NULL;
+        struct found found = NOTHING;
         uint32_t now = head_now(&s), number = now;
         unsigned refusal = 0;
         stop = unreadable(batch + at, batch_len - at, &q);
         if (stop)
             break;
-        if (answers_len - out < 5) {
+        if (answers_len - out < KIZMOOLET_ANSWER_BYTES) {
             stop = 14;
             break;
         }
@@ -268,17 +268,17 @@ uint32_t plain_batch(uint8_t *head, size_t head_len, uint8_t *branches, size_t b
             else if (q.moment > now)
                 refusal = 9;
             else
-                page = lookup(&s, q.address, q.moment);
+                found = lookup(&s, q.address, q.moment);
             break;
         case RECLAIM:
             refusal = reclaim(&s, q.moment, &number);
             break;
         }
-        if (page && answers_len - out < 5 + PAGE) {
+        if (found.page && answers_len - out < KIZMOOLET_PAGE_ANSWER_BYTES) {
             stop = 14;
             break;
         }
-        out = (size_t)(put_answer(answers + out, refusal, refusal ? 0 : number, page) - answers);
+        out = (size_t)(put_answer(answers + out, refusal, refusal ? 0 : number, found) - answers);
         at += q.operation == WRITE ? 7 + PAGE : 7;
         ++*answered;
     }

@@ -171,7 +171,8 @@ static void row(enum shape shape, uint32_t n, uint32_t b, int repetitions)
     uint32_t floor;
     make(&s, shape, n, b, &floor);
     size_t length;
-    uint8_t *first = joined(&s, &length), *due = NULL, batch[7] = {5u << 5}, answers[5], answer_due[5];
+    uint8_t *first = joined(&s, &length), *due = NULL, batch[7] = {5u << 5};
+    uint8_t answers[KIZMOOLET_ANSWER_BYTES], answer_due[sizeof answers];
     uint64_t word = (uint64_t)5 << 53 | (uint64_t)floor << 5;
     for (int i = 0; i < 7; i++)
         batch[i] = (uint8_t)(word >> (48 - 8 * i));
@@ -186,14 +187,14 @@ static void row(enum shape shape, uint32_t n, uint32_t b, int repetitions)
             uint32_t stop = contenders[c](s.head, 20, s.branches, s.branches_len, s.records, s.records_len, s.places, s.places_len,
                 s.slab, s.slab_len, batch, 7, answers, sizeof answers, &answered, &taken, &sent);
             times[c * repetitions + r] = seconds() - t;
-            if (stop != 0 || answered != 1 || sent != 5 || answers[0] != 0)
+            if (stop != 0 || answered != 1 || sent != sizeof answers || answers[0] != 0)
                 fail("a reclaim was not accepted");
             uint8_t *left = joined(&s, &length);
             if (!due) {
                 due = left;
-                memcpy(answer_due, answers, 5);
+                memcpy(answer_due, answers, sizeof answers);
             } else {
-                if (memcmp(due, left, length) != 0 || memcmp(answer_due, answers, 5) != 0)
+                if (memcmp(due, left, length) != 0 || memcmp(answer_due, answers, sizeof answers) != 0)
                     fail("two contenders leave different tables");
                 free(left);
             }

@@ -59,7 +59,7 @@ static void load(const struct areas *s)
     begin = prepared("begin");
     commit = prepared("commit");
     holder = prepared("select start, cut from branches where start <= ?1 order by start desc limit 1");
-    latest = prepared("select page from records where address = ?1 and moment between ?2 and ?3 order by moment desc limit 1");
+    latest = prepared("select page, moment from records where address = ?1 and moment between ?2 and ?3 order by moment desc limit 1");
     put_record = prepared("insert into records values (?1, ?2, ?3) on conflict (address, moment) do update set page = excluded.page");
     put_branch = prepared("insert into branches values (?1, ?2, ?3)");
     close_branch = prepared("update branches set last = ?1 where start = (select max(start) from branches)");
@@ -87,7 +87,7 @@ static void drop(void)
 }
 
 /* Leaves the query that found the page open, so that the page can be copied; the caller resets it. */
-static const uint8_t *lookup(uint32_t address, uint32_t moment)
+static struct found lookup(uint32_t address, uint32_t moment)
 {
     for (;;) {
         bind(holder, 1, moment);
@@ -100,10 +100,10 @@ static const uint8_t *lookup(uint32_t address, uint32_t moment)
         bind(latest, 3, moment);
         int code = sqlite3_step(latest);
         if (code == SQLITE_ROW)
-            return sqlite3_column_blob(latest, 0);
+            return (struct found){sqlite3_column_blob(latest, 0), column(latest, 1)};
         ok(sqlite3_reset(latest));
         if (start == 0)
-            return NULL;
+            return NOTHING;
         moment = cut;
     }
 }
@@ -151,7 +151,7 @@ static size_t run(const uint8_t *batch, size_t batch_len, uint8_t *answers, size
     for (size_t at = 0; at < batch_len; at += 7) {
         struct request q = request_at(batch + at);
         uint32_t number = now;
-        const uint8_t *page = NULL;
+        struct found found = NOTHING;
         switch (q.operation) {
         case WRITE:
             insert_page(q.address, now, batch + at + 7);
@@ -167,14 +167,14 @@ static size_t run(const uint8_t *batch, size_t batch_len, uint8_t *answers, size
             break;
         case READ:
             number = q.moment;
-            page = lookup(q.address, q.moment);
+            found = lookup(q.address, q.moment);
             break;
         case RECLAIM:
             number = reclaim(q.moment);
             break;
         }
-        out = put_answer(out, 0, number, page);
-        if (page)
+        out = put_answer(out, 0, number, found);
+        if (found.page)
             ok(sqlite3_reset(latest));
     }
     once(commit);

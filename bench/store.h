@@ -4,8 +4,9 @@
 
 #include <stddef.h>
 #include <stdint.h>
+#include "kizmoolet.h"
 
-#define PAGE 256u
+#define PAGE KIZMOOLET_PAGE_BYTES
 #define OPEN_END 4294967295u
 
 static inline uint32_t get32(const uint8_t *p)
@@ -62,13 +63,19 @@ static inline struct request request_at(const uint8_t *p)
     return (struct request){(unsigned)(n >> 53 & 7), (uint32_t)(n >> 37 & 65535), (uint32_t)(n >> 5), (uint32_t)(n & 31)};
 }
 
-static inline uint8_t *put_answer(uint8_t *out, unsigned refusal, uint32_t number, const uint8_t *page)
+/* What a lookup gives: a page, NULL where there is none, and its date, the moment of the record that was found. */
+struct found { const uint8_t *page; uint32_t date; };
+#define NOTHING ((struct found){NULL, 0})
+
+static inline uint8_t *put_answer(uint8_t *out, unsigned refusal, uint32_t number, struct found found)
 {
-    out[0] = (uint8_t)(refusal << 2 | (page ? 2u : 0u));
+    out[0] = (uint8_t)(refusal << 2 | (found.page ? 2u : 0u));
     put32(out + 1, number);
-    out += 5;
-    if (page) {
-        __builtin_memcpy(out, page, PAGE);
+    out += KIZMOOLET_ANSWER_BYTES;
+    if (found.page) {
+        put32(out, found.date);
+        out += KIZMOOLET_DATE_BYTES;
+        __builtin_memcpy(out, found.page, PAGE);
         out += PAGE;
     }
     return out;

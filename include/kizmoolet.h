@@ -66,14 +66,15 @@
  *   3 revert   moment                                  seals now; the volume is as at moment   answer: the sealed moment, which
  *                                                                                              is the one to name to undo it
  *   4 read     address, moment                         the page at that moment                 answer: the moment asked, and the
- *                                                                                              page if there is one
+ *                                                                                              page with its date if there is one
  *   5 reclaim  moment                                  makes it the floor, frees what no read  answer: how many records it freed
  *                                                      from there to now gives
  *
  * ANSWERS, one behind the other in the answer area, in the order of the requests
  *
- * Packed fields: refusal 6 bits (0: accepted), page present 1, spare 1 (zero), number 32; 5 bytes. A present page's 256 bytes
- * follow. A refusal has number 0. What lies past the answers is not written.
+ * Packed fields: refusal 6 bits (0: accepted), page present 1, spare 1 (zero), number 32; 5 bytes. Where a page is present, its
+ * date follows in 4 bytes, the moment at which it was written, and then its 256 bytes: 265 in all. An answer without a page has
+ * 5 bytes and no date. A refusal has number 0. What lies past the answers is not written.
  *
  *
  * THE NUMBERS
@@ -91,9 +92,9 @@
 #include <stdint.h>
 
 /* The version of this header and of the archive beside it; CHANGELOG.md says what changed. */
-#define KIZMOOLET_VERSION "0.1.0"
+#define KIZMOOLET_VERSION "0.2.0"
 #define KIZMOOLET_VERSION_MAJOR 0
-#define KIZMOOLET_VERSION_MINOR 1
+#define KIZMOOLET_VERSION_MINOR 2
 #define KIZMOOLET_VERSION_PATCH 0
 
 #define KIZMOOLET_OK 0u
@@ -150,11 +151,12 @@
 #define KIZMOOLET_HEAD_NOW_AT 12u
 #define KIZMOOLET_HEAD_FLOOR_AT 16u
 
-/* Bytes of a request, of a write with its page, of an answer, of an answer with a page. */
+/* Bytes of a request, of a write with its page, of an answer, of a page's date, of an answer with a page and its date. */
 #define KIZMOOLET_REQUEST_BYTES 7u
 #define KIZMOOLET_WRITE_BYTES 263u
 #define KIZMOOLET_ANSWER_BYTES 5u
-#define KIZMOOLET_PAGE_ANSWER_BYTES 261u
+#define KIZMOOLET_DATE_BYTES 4u
+#define KIZMOOLET_PAGE_ANSWER_BYTES 265u
 
 /* Enough stack for a call of either function. Measured: kizmoolet_fresh 1.10 MB, kizmoolet_batch 1.38 MB, whatever the sizes of
    the tables and the batch. */

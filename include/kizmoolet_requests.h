@@ -11,7 +11,7 @@
  *     struct kizmoolet_answers from = kizmoolet_answers_in(answers, (size_t)answer_bytes);
  *     struct kizmoolet_answer answer;
  *     while (kizmoolet_next_answer(&from, &answer) == 1)
- *         .. answer.refusal, answer.number, answer.page ..
+ *         .. answer.refusal, answer.number, answer.page, answer.date ..
  */
 #ifndef KIZMOOLET_REQUESTS_H
 #define KIZMOOLET_REQUESTS_H
@@ -32,8 +32,9 @@ struct kizmoolet_requests {
 struct kizmoolet_answer {
     uint32_t refusal;    /* 0, or 4 to 10 */
     uint32_t number;     /* 0 in a refusal */
+    uint32_t date;       /* the moment at which the page was written; 0 where there is no page */
     const uint8_t *page; /* KIZMOOLET_PAGE_BYTES bytes in the answer area, or NULL */
-    size_t length;       /* the bytes of the answer, with its page */
+    size_t length;       /* the bytes of the answer, with its date and page */
 };
 
 /* Answers in an area of the caller's, one behind the other. */
@@ -177,6 +178,7 @@ static inline int kizmoolet_next_answer(struct kizmoolet_answers *from, struct k
     int page;
     answer->refusal = 0;
     answer->number = 0;
+    answer->date = 0;
     answer->page = NULL;
     answer->length = 0;
     if (left == 0)
@@ -197,8 +199,10 @@ static inline int kizmoolet_next_answer(struct kizmoolet_answers *from, struct k
     answer->refusal = refusal;
     answer->number = number;
     answer->length = length;
-    if (page)
-        answer->page = at + KIZMOOLET_ANSWER_BYTES;
+    if (page) {
+        answer->date = kizmoolet_number_at(at + KIZMOOLET_ANSWER_BYTES);
+        answer->page = at + KIZMOOLET_ANSWER_BYTES + KIZMOOLET_DATE_BYTES;
+    }
     from->at += length;
     return 1;
 }

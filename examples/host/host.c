@@ -53,13 +53,14 @@
 enum {
     HEADER = 24,
     CHECKSUM_AT = 20,
-    HEAD = 20,
-    PAGE = 256,
+    HEAD = KIZMOOLET_HEAD_BYTES,
+    PAGE = KIZMOOLET_PAGE_BYTES,
     WRITE = 1, /* operations */
     READ = 4,
     RECLAIM = 5,
-    REQUEST = 7, /* bytes of a request, without a write's page */
-    ANSWER = 5,  /* bytes of an answer, without a read's page */
+    REQUEST = KIZMOOLET_REQUEST_BYTES,         /* without a write's page */
+    ANSWER = KIZMOOLET_ANSWER_BYTES,           /* without a page */
+    PAGE_ANSWER = KIZMOOLET_PAGE_ANSWER_BYTES, /* with a page and its date */
     BRANCHES_MOST = 4096,
     ROWS_MOST = 65536,
     BATCH_MOST = 1 << 26,  /* bytes of one batch: more than three whole volumes of writes */
@@ -438,7 +439,7 @@ static size_t request_length(const uint8_t *at, size_t left) {
 static size_t longest_answers(const uint8_t *batch, size_t length) {
     size_t longest = 0, takes;
     for (size_t at = 0; (takes = request_length(batch + at, length - at)) != 0; at += takes)
-        longest += ANSWER + (batch[at] >> 5 == READ ? PAGE : 0);
+        longest += batch[at] >> 5 == READ ? PAGE_ANSWER : ANSWER;
     return longest;
 }
 
@@ -450,7 +451,7 @@ static uint64_t refused_of(const uint8_t *answers, const uint8_t *batch, const s
         request += request_length(batch + request, (size_t)done->request_bytes - request);
         if (answers[answer] >> 2 && refused++ == 0)
             *first_end = request;
-        answer += ANSWER + (answers[answer] & 2 ? PAGE : 0);
+        answer += answers[answer] & 2 ? PAGE_ANSWER : ANSWER;
     }
     return refused;
 }

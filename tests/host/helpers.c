@@ -2,8 +2,8 @@
    as C++11.
 
    1. Every request and answer that helpers/main.rs writes, packed and unpacked: the bytes are those of the reference; into an
-      area that is too short nothing is packed, and answers that are cut short are not unpacked.
-   2. Each of the numbers 0 to 14, by its name, comes from the library where the header says. */
+      area that is too short nothing is packed, and answers that are cut short anywhere are not unpacked.
+   2. Each of the numbers 0 to 14, by its name, comes from the library where the header says, and so does a page's date. */
 
 #include "kizmoolet.h"
 #include "kizmoolet_requests.h"
@@ -130,21 +130,34 @@ static uint8_t all_answers[4u << 20]; /* all answers one behind the other */
 static size_t all_answers_len;
 static unsigned long answers_seen;
 
+/* The next answer, into a place that held another before. */
+static int next_answer(struct kizmoolet_answers *from, struct kizmoolet_answer *answer)
+{
+    memset(answer, GUARD, sizeof *answer);
+    return kizmoolet_next_answer(from, answer);
+}
+
+static int all_zero(const struct kizmoolet_answer *answer)
+{
+    return answer->refusal == 0 && answer->number == 0 && answer->date == 0 && answer->page == NULL && answer->length == 0;
+}
+
 static void one_answer(void)
 {
-    uint32_t refusal = (uint32_t)get_number(), number = (uint32_t)get_number();
+    uint32_t refusal = (uint32_t)get_number(), number = (uint32_t)get_number(), date = (uint32_t)get_number();
     uint8_t page[KIZMOOLET_PAGE_BYTES], bytes[KIZMOOLET_PAGE_ANSWER_BYTES];
     size_t cut, page_len = get_area(page, sizeof page), length = get_area(bytes, sizeof bytes);
     struct kizmoolet_answers from = kizmoolet_answers_in(bytes, length);
     struct kizmoolet_answer answer;
     unsigned bit;
     CHECK(length == (page_len != 0 ? KIZMOOLET_PAGE_ANSWER_BYTES : KIZMOOLET_ANSWER_BYTES));
-    CHECK(kizmoolet_next_answer(&from, &answer) == 1);
+    CHECK(next_answer(&from, &answer) == 1);
     CHECK(answer.refusal == refusal && answer.number == number && answer.length == length && from.at == length);
-    CHECK(page_len != 0 ? answer.page == bytes + KIZMOOLET_ANSWER_BYTES && memcmp(answer.page, page, page_len) == 0
+    CHECK(answer.date == date && (page_len != 0 || date == 0));
+    CHECK(page_len != 0 ? answer.page == bytes + KIZMOOLET_ANSWER_BYTES + KIZMOOLET_DATE_BYTES
+                && memcmp(answer.page, page, page_len) == 0
                         : answer.page == NULL);
-    CHECK(kizmoolet_next_answer(&from, &answer) == 0 && from.at == length);
-    CHECK(answer.refusal == 0 && answer.number == 0 && answer.page == NULL && answer.length == 0);
+    CHECK(next_answer(&from, &answer) == 0 && from.at == length && all_zero(&answer));
     for (cut = 0; cut < length; cut++) {
         /* An allocation of its own, so that the sanitizers see what is read past it. */
         uint8_t *part = (uint8_t *)malloc(cut != 0 ? cut : 1);
@@ -152,11 +165,9 @@ static void one_answer(void)
             fail("no memory");
         memcpy(part, bytes, cut);
         from = kizmoolet_answers_in(part, cut);
-        CHECK(kizmoolet_next_answer(&from, &answer) == (cut == 0 ? 0 : -1));
-        CHECK(from.at == 0 && answer.refusal == 0 && answer.number == 0 && answer.page == NULL && answer.length == 0);
+        CHECK(next_answer(&from, &answer) == (cut == 0 ? 0 : -1));
+        CHECK(from.at == 0 && all_zero(&answer));
         free(part);
-        if (cut == KIZMOOLET_ANSWER_BYTES + 1 && length > cut)
-            cut = length - 3; /* not each of the page's bytes */
     }
     if (all_answers_len + length <= sizeof all_answers) {
         memcpy(all_answers + all_answers_len, bytes, length);
@@ -166,13 +177,13 @@ static void one_answer(void)
     /* Bytes that the library never writes. */
     bytes[0] |= 1;
     from = kizmoolet_answers_in(bytes, length);
-    CHECK(kizmoolet_next_answer(&from, &answer) == -1 && from.at == 0);
+    CHECK(next_answer(&from, &answer) == -1 && from.at == 0 && all_zero(&answer));
     for (bit = 0; bit < 64; bit++) {
         uint8_t first = (uint8_t)(bit << 2 | (page_len != 0 ? 2u : 0u));
         int good = bit == 0 || (bit >= 4 && bit <= 10 && page_len == 0 && number == 0);
         bytes[0] = first;
         from = kizmoolet_answers_in(bytes, length);
-        CHECK(kizmoolet_next_answer(&from, &answer) == (good ? 1 : -1));
+        CHECK(next_answer(&from, &answer) == (good ? 1 : -1) && (good || all_zero(&answer)));
     }
 }
 
@@ -188,6 +199,9 @@ static void reference_sizes(void)
     CHECK(get_number() == KIZMOOLET_MOST_PLACES);
     CHECK(get_number() == KIZMOOLET_MOST_PAGES);
     CHECK(get_number() == KIZMOOLET_LAST_MOMENT);
+    CHECK(get_number() == KIZMOOLET_ANSWER_BYTES);
+    CHECK(get_number() == KIZMOOLET_DATE_BYTES);
+    CHECK(get_number() == KIZMOOLET_PAGE_ANSWER_BYTES);
 }
 
 static void against_reference(void)
@@ -281,6 +295,25 @@ static uint32_t refused(void)
     return answer.refusal;
 }
 
+/* A page written at a moment and read at this one or a later: its date lies between number and page, and its answer fits into
+   so many bytes as the header says and into no fewer. */
+static void dated(uint32_t written, uint32_t asked)
+{
+    struct kizmoolet_answer answer;
+    fresh(1, 1, 1);
+    put_number(head + KIZMOOLET_HEAD_NOW_AT, written);
+    kizmoolet_add_write(&list, 5, letters);
+    CHECK(send_list() == KIZMOOLET_OK && refused() == KIZMOOLET_OK);
+    put_number(head + KIZMOOLET_HEAD_NOW_AT, asked);
+    kizmoolet_add_read(&list, 5, asked);
+    CHECK(send_to(KIZMOOLET_PAGE_ANSWER_BYTES - 1) == KIZMOOLET_ANSWERS_FULL && answered == 0 && answer_bytes == 0);
+    kizmoolet_add_read(&list, 5, asked);
+    CHECK(send_to(KIZMOOLET_PAGE_ANSWER_BYTES) == KIZMOOLET_OK && answer_bytes == KIZMOOLET_PAGE_ANSWER_BYTES);
+    CHECK(kizmoolet_number_at(answers_area + KIZMOOLET_ANSWER_BYTES) == written);
+    CHECK(memcmp(answers_area + KIZMOOLET_ANSWER_BYTES + KIZMOOLET_DATE_BYTES, letters, sizeof letters) == 0);
+    CHECK(kizmoolet_next_answer(&answers, &answer) == 1 && answer.number == asked && answer.date == written);
+}
+
 static void by_name(void)
 {
     struct kizmoolet_answer answer;
@@ -302,9 +335,9 @@ static void by_name(void)
     CHECK(kizmoolet_next_answer(&answers, &answer) == 1 && answer.refusal == KIZMOOLET_OK && answer.number == 0);
     CHECK(kizmoolet_next_answer(&answers, &answer) == 1 && answer.number == 0);
     CHECK(kizmoolet_next_answer(&answers, &answer) == 1 && answer.number == 1);
-    CHECK(kizmoolet_next_answer(&answers, &answer) == 1 && answer.number == 2 && answer.page != NULL
+    CHECK(kizmoolet_next_answer(&answers, &answer) == 1 && answer.number == 2 && answer.date == 0 && answer.page != NULL
         && memcmp(answer.page, letters, sizeof letters) == 0);
-    CHECK(kizmoolet_next_answer(&answers, &answer) == 1 && answer.number == 2 && answer.page == NULL);
+    CHECK(kizmoolet_next_answer(&answers, &answer) == 1 && answer.number == 2 && answer.date == 0 && answer.page == NULL);
     CHECK(kizmoolet_next_answer(&answers, &answer) == 1 && answer.number == 0);
     CHECK(kizmoolet_next_answer(&answers, &answer) == 0);
     CHECK(kizmoolet_now(head) == 2 && kizmoolet_floor(head) == 1);
@@ -313,6 +346,10 @@ static void by_name(void)
     CHECK(kizmoolet_number_at(head + KIZMOOLET_HEAD_RECORDS_AT) == 1);
     kizmoolet_add_revert(&list, 0);
     CHECK(send_list() == KIZMOOLET_OK && refused() == KIZMOOLET_MOMENT_TOO_EARLY);
+    dated(0, 1);
+    dated(0x01020304, 0x01020305);
+    dated(0xFEDCBA98, KIZMOOLET_LAST_MOMENT);
+    dated(KIZMOOLET_LAST_MOMENT, KIZMOOLET_LAST_MOMENT);
 
     fresh(1, 1, 1);
     put_number(head + KIZMOOLET_HEAD_FLOOR_AT, 1);
@@ -372,7 +409,7 @@ int main(void)
     sprintf(version, "%d.%d.%d", KIZMOOLET_VERSION_MAJOR, KIZMOOLET_VERSION_MINOR, KIZMOOLET_VERSION_PATCH);
     CHECK(strcmp(version, KIZMOOLET_VERSION) == 0);
     CHECK(KIZMOOLET_WRITE_BYTES == KIZMOOLET_REQUEST_BYTES + KIZMOOLET_PAGE_BYTES);
-    CHECK(KIZMOOLET_PAGE_ANSWER_BYTES == KIZMOOLET_ANSWER_BYTES + KIZMOOLET_PAGE_BYTES);
+    CHECK(KIZMOOLET_PAGE_ANSWER_BYTES == KIZMOOLET_ANSWER_BYTES + KIZMOOLET_DATE_BYTES + KIZMOOLET_PAGE_BYTES);
     against_reference();
     by_name();
     printf("  %lu checks, %lu wrong\n", checks, wrong);

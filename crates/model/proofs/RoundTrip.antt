@@ -1,5 +1,5 @@
 -- Requests and answers: what is sent is what is read.
-use Prim.Native.Nat.{ℕ, _+_, _^_, _<_}
+use Prim.Native.Nat.{ℕ, _+_, _^_, _<_, _≤_}
 use mathlib.Core.Path.{_≡_, refl, ap, _∙_}
 use mathlib.Core.List.{List, [], _∷_, _++_, append-assoc}
 use mathlib.Core.Option.{Option, some, none}
@@ -10,7 +10,7 @@ use lib.Dec.{leb}
 use lib.ListN.{length, take, drop, length-append}
 use lib.Seq.{take-at, drop-at}
 use borrow.Author.Tests.{le-leb}
-use Rattle.model.specs.Store.{Page}
+use Rattle.model.specs.Store.{Page, open-end}
 use Rattle.model.specs.Wire.{number, bytes, Field, packed, field, Request, write, mark, revert, readAt, reclaim, requestHead, requestBytes, one, byOperation, ofWord, parse, Answer, present, pageBytes, answerBytes}
 use Rattle.model.proofs.Packing.{number-bytes, length-bytes, Fit, bits, packed-fits, field-read}
 
@@ -86,17 +86,47 @@ pub length-answer : (x : Answer) → length (answerBytes x) ≡ 5 + length (page
 unfolding answerBytes
 length-answer x = length-append (bytes 5 (packed 0 (answerFields x))) (pageBytes (x .page)) ∙ ap (λ (n : ℕ). n + length (pageBytes (x .page))) (length-bytes 5 (packed 0 (answerFields x)))
 
--- what a receiver reads of an answer: the four fields of the first five bytes, then the page
+-- 5 bytes without a page; with a page, of 256 bytes, 265: what refusal 14 measures
+module _ (x : Answer) where
+  sized : (o : Option Page) → x .page ≡ o → length (answerBytes x) ≡ 5 + length (pageBytes o)
+  sized o e = length-answer x ∙ ap (λ (p : Option Page). 5 + length (pageBytes p)) e
+
+  pub size-absent : x .page ≡ none → length (answerBytes x) ≡ 5
+  size-absent e = sized none e
+
+  pub size-found : (p : Page) → x .page ≡ some p → length (p .bytes) ≡ 256 → length (answerBytes x) ≡ 265
+  size-found p e w = omega (arith, sized (some p) e, length-append (bytes 4 (p .moment)) (p .bytes), length-bytes 4 (p .moment))
+
+-- what a receiver reads behind the five bytes: the date in four, then the page; nothing where none is present
+abbrev pub PageRead : Option Page → List ℕ → Type 0
+PageRead none rest = rest ≡ []
+PageRead (some p) rest = (number 0 (take 4 rest) ≡ p .moment) × (drop 4 rest ≡ p .bytes)
+
+-- the date of a page, where there is one, is at most a moment
+abbrev pub DatedUpTo : ℕ → Option Page → Type 0
+DatedUpTo t none = Unit {0}
+DatedUpTo t (some p) = p .moment ≤ t
+
+pub page-round : (o : Option Page) → DatedUpTo open-end o → PageRead o (pageBytes o)
+page-round none h = refl
+page-round (some p) h =
+    let date : List ℕ = bytes 4 (p .moment) in
+    let fits : p .moment < 4294967296 = omega arith in (
+      rw (take-at date (p .bytes) 4 (length-bytes 4 (p .moment))) (number-bytes 4 0 (p .moment) ∙ (omega arith ∙ mod-eq-of-lt fits)),
+      drop-at date (p .bytes) 4 (length-bytes 4 (p .moment)),
+    )
+
+-- what a receiver reads of an answer: the four fields of the first five bytes, then the date and the page
 pub record AnswerRead (x : Answer) : Type 0 where
   pub refusal : field (number 0 (take 5 (answerBytes x))) 34 6 ≡ x .refusal
   pub present-bit : field (number 0 (take 5 (answerBytes x))) 33 1 ≡ present (x .page)
   pub spare : field (number 0 (take 5 (answerBytes x))) 32 1 ≡ 0
   pub value : field (number 0 (take 5 (answerBytes x))) 0 32 ≡ x .value
-  pub page : drop 5 (answerBytes x) ≡ pageBytes (x .page)
+  pub page : PageRead (x .page) (drop 5 (answerBytes x))
 
-pub answer-round : (x : Answer) → x .refusal < 64 → x .value < 4294967296 → AnswerRead x
+pub answer-round : (x : Answer) → x .refusal < 64 → x .value < 4294967296 → DatedUpTo open-end (x .page) → AnswerRead x
 unfolding answerBytes
-answer-round x hr hv =
+answer-round x hr hv hd =
     let fit : Fit (answerFields x) = (hr, (present-fits (x .page), (omega arith, (hv, tt)))) in
     let w : ℕ = packed 0 (answerFields x) in
     let t : take 5 (bytes 5 w ++ pageBytes (x .page)) ≡ bytes 5 w = take-at (bytes 5 w) (pageBytes (x .page)) 5 (length-bytes 5 w) in
@@ -112,5 +142,5 @@ answer-round x hr hv =
           rw (t, e)
           (field-read 0 (record { width = 6; value = x .refusal } ∷ record { width = 1; value = present (x .page) } ∷ record { width = 1; value = 0 } ∷ [])
           (record { width = 32; value = x .value }) [] (fit .1 .1 .1));
-      page = drop-at (bytes 5 w) (pageBytes (x .page)) 5 (length-bytes 5 w);
+      page = rw (drop-at (bytes 5 w) (pageBytes (x .page)) 5 (length-bytes 5 w)) (page-round (x .page) hd);
     }

@@ -1,5 +1,5 @@
 -- Each request keeps a store sound, and against the reference.
-use Prim.Native.Nat.{ℕ, _≤_}
+use Prim.Native.Nat.{ℕ, _≤_, _<_}
 use mathlib.Core.List.{List}
 use mathlib.Core.Option.{Option, some, none}
 use mathlib.Core.Bool.{Bool, cond}
@@ -24,6 +24,7 @@ use Rattle.model.proofs.Moves.{Stepping, mark-step, revert-step}
 use Rattle.model.proofs.Writing.{rows-falls, write-step}
 use Rattle.model.proofs.Reclaiming.{reclaim-step}
 use Rattle.model.proofs.Reading.{read-step}
+use Rattle.model.proofs.RoundTrip.{DatedUpTo, AnswerRead, answer-round}
 
 step-canon : (s : Store) (snaps : ℕ → Snapshot) (q : Request) → Sound s → Reads s snaps → Whole q → Stepping s (referenceOf s snaps) q (step s q)
 unfolding step
@@ -48,17 +49,19 @@ abbrev pub WholePage : Option Page → Type 0
 WholePage none = Unit {0}
 WholePage (some p) = length (p .bytes) ≡ 256
 
--- a request's own refusals are at most 10, an answer with a page leaves the store, and a page is whole
+-- a request's own refusals are at most 10, an answer with a page leaves the store, a page is whole, and its date is at most the
+-- answer's number, which is the moment asked
 pub record Answers (s : Store) (st : Stepped) : Type 0 where
   pub small : st .answer .refusal ≤ 10
   pub leaves : (st .answer .page ≡ none → ⊥) → st .store ≡ s
   pub whole : WholePage (st .answer .page)
+  pub dated : DatedUpTo (st .answer .value) (st .answer .page)
 
 refused-answers : (s : Store) (n : ℕ) → n ≤ 10 → Answers s (unchanged s n)
-refused-answers s n l = record { small = l; leaves = λ e. refl; whole = tt }
+refused-answers s n l = record { small = l; leaves = λ e. refl; whole = tt; dated = tt }
 
 accepted-answers : (s u : Store) (n : ℕ) → Answers s (record { store = u; answer = accepted n })
-accepted-answers s u n = record { small = omega arith; leaves = λ e. absurd (e refl); whole = tt }
+accepted-answers s u n = record { small = omega arith; leaves = λ e. absurd (e refl); whole = tt; dated = tt }
 
 if-answers : (s : Store) (b : Bool) (x y : Stepped) → Answers s x → Answers s y → Answers s (cond b x y)
 if-answers s b x y f g = case b (λ e. rw e f) (λ e. rw e g)
@@ -72,13 +75,16 @@ written-answers s a page none =
     free-answers none = refused-answers s 6 (omega arith)
     free-answers (some p) = accepted-answers s _ _
 
--- the page found is that of a counted record, whose place is in the place table
-found-whole : (s : Store) → Sound s → (a t : ℕ) (o : Option Record) → lookup s a t ≡ o → WholePage (foundPage (s .slab) o)
+-- the page found is that of a counted record, up to the moment asked, whose place is in the place table
+found-page : (s : Store) → Sound s → (a t : ℕ) (o : Option Record) → lookup s a t ≡ o
+    → WholePage (foundPage (s .slab) o) × DatedUpTo t (foundPage (s .slab) o)
 unfolding lookup
-found-whole s h a t none e = tt
-found-whole s h a t (some r) e =
-    let d : Found (records s) a t (newest s) r = find→ (records s) a (newest s) (rows-falls _ _ (newest s) (h .rows)) t r e in
-    length-page (s .slab) (r .place) (omega (arith, named-mem (s .placeRows) 1 (records s) r (h .named) (d .counted), h .sizes .allowed .slab))
+found-page s h a t none e = (tt, tt)
+found-page s h a t (some r) e =
+    let d : Found (records s) a t (newest s) r = find→ (records s) a (newest s) (rows-falls _ _ (newest s) (h .rows)) t r e in (
+      length-page (s .slab) (r .place) (omega (arith, named-mem (s .placeRows) 1 (records s) r (h .named) (d .counted), h .sizes .allowed .slab)),
+      d .upTo,
+    )
 
 pub step-answers : (s : Store) (q : Request) → Sound s → Answers s (step s q)
 unfolding step doWrite doMark doRevert doRead doReclaim
@@ -94,9 +100,20 @@ step-answers s (readAt a m) h =
     if-answers s (ltb a (s .head .size)) _ _
     (if-answers s (readable s m) _ _
     (if-answers s (ltb (s .head .now) m) _ _ (refused-answers s 9 (omega arith))
-    (record { small = omega arith; leaves = λ e. refl; whole = found-whole s h a m (lookup s a m) refl }))
+    (let f = found-page s h a m (lookup s a m) refl in
+    record { small = omega arith; leaves = λ e. refl; whole = f .0; dated = f .1 }))
     (refused-answers s 8 (omega arith)))
     (refused-answers s 4 (omega arith))
 step-answers s (reclaim m) h =
     if-answers s (ltb m (s .head .floor)) _ _ (refused-answers s 8 (omega arith))
     (if-answers s (ltb (s .head .now) m) _ _ (refused-answers s 9 (omega arith)) (accepted-answers s _ _))
+
+dated-later : (t u : ℕ) (o : Option Page) → t ≤ u → DatedUpTo t o → DatedUpTo u o
+dated-later t u none l h = tt
+dated-later t u (some p) l h = omega arith
+
+-- what a receiver reads of an answer is the answer: where its number has 32 bits, so has the date
+pub step-round : (s : Store) (q : Request) → Sound s → step s q .answer .value < 4294967296 → AnswerRead (step s q .answer)
+step-round s q h v =
+    let w = step-answers s q h in
+    answer-round (step s q .answer) (omega (arith, w .small)) v (dated-later (step s q .answer .value) open-end (step s q .answer .page) (omega arith) (w .dated))

@@ -102,11 +102,12 @@ abbrev pub present : Option Page → ℕ
 present (some p) = 1
 present none = 0
 
+-- a found page as it is sent: its date, which is the moment of its write, in 32 bits, and then its bytes
 abbrev pub pageBytes : Option Page → List ℕ
-pageBytes (some p) = p .bytes
+pageBytes (some p) = bytes 4 (p .moment) ++ p .bytes
 pageBytes none = []
 
--- an answer as it is sent: refusal 6 bits, page present 1, spare 1, number 32; a present page's bytes follow
+-- an answer as it is sent: refusal 6 bits, page present 1, spare 1, number 32; a present page's date and bytes follow
 unfoldable pub answerBytes : Answer → List ℕ
 answerBytes x =
     bytes 5

@@ -14,6 +14,7 @@ use trial_words::layout::HEAD_BRANCHES;
 use trial_words::layout::HEAD_NOW;
 use trial_words::layout::HEAD_RECORDS;
 use trial_words::layout::Numbers;
+use trial_words::layout::PAGE_ANSWER;
 use trial_words::layout::PLACE_TABLE;
 use trial_words::layout::PLAY;
 use trial_words::layout::RECORD_TABLE;
@@ -88,13 +89,13 @@ fn in_record(w: &Numbers, fault: u32, records: u32) -> u32 {
 }
 
 fn in_page(b: &Bytes, fault: u32) -> u32 {
-    if fault != 6 {
+    if byte(b, ANSWERS) != 2 {
         return NOWHERE;
     }
-    if byte(b, ANSWERS) == 2 {
-        plus(BYTES, plus(ANSWERS, 260))
-    } else {
-        NOWHERE
+    match fault {
+        6 => plus(BYTES, plus(ANSWERS, PAGE_ANSWER - 1)),
+        36..=39 => plus(BYTES, plus(ANSWERS, minus(fault, 31))),
+        _ => NOWHERE,
     }
 }
 

@@ -16,6 +16,7 @@ use trial_words::layout::INPUT;
 use trial_words::layout::KEPT;
 use trial_words::layout::LAST;
 use trial_words::layout::Numbers;
+use trial_words::layout::PAGE_ANSWER;
 use trial_words::layout::PLACE_LENGTH;
 use trial_words::layout::PLACE_TABLE;
 use trial_words::layout::RECORD_LENGTH;
@@ -129,11 +130,11 @@ fn judge_next(w: &mut Numbers, b: &Bytes, k: u32) {
     }
 }
 
-// One answer: its refusal, and the page due; 14 where it does not fit.
+// One answer: its refusal, and the page due, with its date; 14 where it does not fit.
 fn judge_answer(w: &mut Numbers, b: &Bytes, r: Request) {
     let refusal = trial_reference::refusal(w, r);
     let page = due_page(w, r, refusal);
-    let size: u32 = if page == 0 { 5 } else { 261 };
+    let size: u32 = if page == 0 { 5 } else { PAGE_ANSWER };
     if minus(get(w, AREA), get(w, SENT)) < size {
         put(w, DUE, 14);
     } else {
@@ -150,15 +151,18 @@ fn due_page(w: &Numbers, r: Request, refusal: u32) -> u32 {
     }
 }
 
-// The reference is fed where the store's answer is no refusal; then refusal, number and page are compared.
+// The reference is fed where the store's answer is no refusal; then refusal, number, date and page are compared.
 fn judge_bytes(w: &mut Numbers, b: &Bytes, r: Request, refusal: u32, page: u32) {
     let at = plus(ANSWERS, get(w, SENT));
     let given = byte(b, at) / 4;
     let number = fed(w, r, given);
     let present: u32 = if page == 0 { 0 } else { 2 };
     let flags = plus(refusal % 64 * 4, present);
-    let wrong = answer_wrong(b, at, flags, number, page);
+    let wrong = answer_wrong(b, at, flags, number);
     same(w, wrong, 0);
+    let date = trial_reference::date(w, trial_reference::index(w, r.moment), r.address);
+    let page_differs = page_wrong(b, plus(at, 5), date, page);
+    same(w, page_differs, 0);
 }
 
 fn fed(w: &mut Numbers, r: Request, given: u32) -> u32 {
@@ -176,16 +180,21 @@ fn answered(w: &mut Numbers, refusal: u32, taken: u32, sent: u32) {
     add(w, SENT, sent);
 }
 
-// How many bytes of an answer are wrong.
-fn answer_wrong(b: &Bytes, at: u32, flags: u32, number: u32, page: u32) -> u32 {
+// How many of the five bytes of an answer are wrong.
+fn answer_wrong(b: &Bytes, at: u32, flags: u32, number: u32) -> u32 {
     let first = others(b, at, 1, flags);
     let rest = number_wrong(b, plus(at, 1), number);
-    let bytes = if page == 0 {
-        0
-    } else {
-        others(b, plus(at, 5), 256, minus(page, 1))
-    };
-    plus(plus(first, rest), bytes)
+    plus(first, rest)
+}
+
+// How many bytes behind them, of the date and of the page, are wrong where a page is due.
+fn page_wrong(b: &Bytes, at: u32, date: u32, page: u32) -> u32 {
+    if page == 0 {
+        return 0;
+    }
+    let first = number_wrong(b, at, date);
+    let rest = others(b, plus(at, 4), 256, minus(page, 1));
+    plus(first, rest)
 }
 
 fn number_wrong(b: &Bytes, at: u32, number: u32) -> u32 {

@@ -7,6 +7,7 @@ use trial_words::layout::LENGTH;
 use trial_words::layout::MODE;
 use trial_words::layout::NUMBER;
 use trial_words::layout::Numbers;
+use trial_words::layout::PAGE_ANSWER;
 use trial_words::layout::SEED;
 use trial_words::layout::SIZE;
 use trial_words::request::Request;
@@ -108,14 +109,14 @@ pub fn list_batch(w: &mut Numbers, j: u32) -> u32
 fn list_one(w: &mut Numbers, j: u32) {
     put_letter(w, 0, j);
     put(w, COUNT, 1);
-    put(w, AREA, 264);
+    put(w, AREA, PAGE_ANSWER + 3);
     put(w, CUT, 0);
 }
 
 fn list_all(w: &mut Numbers, n: u32) {
     put_letters(w, n);
     put(w, COUNT, n);
-    put(w, AREA, n % 16 * 261);
+    put(w, AREA, n % 16 * PAGE_ANSWER);
     put(w, CUT, 0);
 }
 
@@ -139,7 +140,7 @@ fn list_drawn(w: &mut Numbers) {
     draw_requests(w, n);
     put(w, COUNT, n);
     draw_cut(w);
-    draw_area(w, n % 16 * 261);
+    draw_area(w, n % 16 * PAGE_ANSWER);
 }
 
 fn draw_cut(w: &mut Numbers) {
@@ -229,7 +230,7 @@ pub fn list_reads(w: &mut Numbers, moment: u32) -> u32
     let size = get(w, SIZE);
     read_each(w, size, moment);
     put(w, COUNT, size);
-    put(w, AREA, size % 16 * 261);
+    put(w, AREA, size % 16 * PAGE_ANSWER);
     put(w, CUT, 0);
     number_at(w, COUNT)
 }
@@ -250,7 +251,7 @@ pub fn list_mark(w: &mut Numbers) -> u32
 {
     put_request(w, 0, plain(2, 0, 0, 0));
     put(w, COUNT, 1);
-    put(w, AREA, 264);
+    put(w, AREA, PAGE_ANSWER + 3);
     put(w, CUT, 0);
     number_at(w, COUNT)
 }

@@ -23,7 +23,7 @@ use trial_words::words::put;
 use trial_words::words::put_four;
 use trial_words::words::put_two;
 ghost use mathlib.Core.Path.{_≡_};
-ghost use Prim.Native.Nat.{_+_, _%_, _<_, _≤_, _^_};
+ghost use Prim.Native.Nat.{_+_, _*_, _%_, _<_, _≤_, _^_};
 ghost use lib.ListN.{length, getD};
 
 // The branch of a moment, the parent of a branch, and whether a branch is kept.
@@ -40,7 +40,9 @@ fn kept_at(b: u32) -> u32 {
 }
 
 // A page of a snapshot: 0 or one more than its byte; then the moment of its write.
-fn page_at(i: u32, a: u32) -> u32 {
+fn page_at(i: u32, a: u32) -> u32
+    ensures { λ r. ⌜ r ≡ 2048 + i % 256 * 8 + a % 4 * 2 ⌝ }
+{
     2048 + i % 256 * 8 + a % 4 * 2
 }
 
@@ -285,6 +287,13 @@ pub fn page(w: &Numbers, r: Request) -> u32
     } else {
         0
     }
+}
+
+// The date of the page at an address of a snapshot: the moment of its write, as requests name it.
+pub fn date(w: &Numbers, i: u32, a: u32) -> u32
+    ensures { λ n. ⌜ n ≡ (getD (now (w .entry)) 20 0 + getD (now (w .entry)) (2048 + i % 256 * 8 + a % 4 * 2 + 1) 0) % 2 ^ 32 ⌝ }
+{
+    plus(number_at(w, BASE), number_at(w, page_at(i, a) + 1))
 }
 
 // The refusal that is due.

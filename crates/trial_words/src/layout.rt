@@ -159,6 +159,9 @@ pub const LAST: u32 = 4294967295;
 // A batch that has not stopped.
 pub const RUNNING: u32 = 99;
 
+// Bytes of an answer with a page: five, the date in four, and the page.
+pub const PAGE_ANSWER: u32 = 265;
+
 // What the answer area holds before a batch.
 pub const BLANK: u32 = 165;
 

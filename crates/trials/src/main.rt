@@ -65,7 +65,7 @@ fn in_family(k: u32) -> Spread {
         9 => lists_of(1, 10, 5, 100000),
         10 => lists_of(1, 7, 6, 117649),
         11 => lists_of(3, 5, 3, 98750),
-        12 => lists_of(5, 5, 3, 98000),
+        12 => lists_of(5, 5, 3, 99500),
         13 => lists_of(2, 1, 40, 500),
         14 => lists_of(2, 1, 40, 1500),
         15 => lists_of(2, 1, 40, 1500),
@@ -218,7 +218,7 @@ fn with_fault(w: &mut Numbers, fault: u32) {
 }
 
 fn all_faults(w: &mut Numbers) {
-    for fault in 1..36u32 {
+    for fault in 1..40u32 {
         with_fault(w, fault);
     }
 }

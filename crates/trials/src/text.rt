@@ -51,7 +51,9 @@ the head of a fresh store\n\
 the end of the first branch of a fresh store\n\
 the record rows of a fresh store\n\
 the place rows of a fresh store\n\
-the other branch rows of a fresh store";
+the other branch rows of a fresh store\n\
+the first byte of a date read back\nthe second byte of a date read back\n\
+the third byte of a date read back\nthe last byte of a date read back";
     io::write_all(1, b"a fault in ");
     say_line(names, fault);
     io::write_all(1, b": put into ");

@@ -153,7 +153,7 @@ pub fn answer_size(r: Outcome) -> usize
     let found = r.found;
     match found {
         Found::Nothing => 5,
-        Found::Row(_) => 261,
+        Found::Row(_) => 265,
     }
 }
 
@@ -170,8 +170,9 @@ pub fn put_answer(out: &mut [u8], slab: &[u8], r: Outcome) -> usize
         }
         Found::Row(row) => {
             put_head(out, r.refusal, 1, r.value);
-            put_page(&mut out[5..], slab, row.place);
-            261
+            put_number(&mut out[5..], row.moment);
+            put_page(&mut out[9..], slab, row.place);
+            265
         }
     }
 }

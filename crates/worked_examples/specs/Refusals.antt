@@ -25,7 +25,7 @@ pub record Case : Type 0 where
   pub answered : ℕ
   pub out : List ℕ
 
-pub holds-all : List Case → Bool
+unfoldable pub holds-all : List Case → Bool
 holds-all [] = true
 holds-all (c ∷ cs) =
     let r : Run = batch (c .store) (c .input) (c .space) in
@@ -83,7 +83,7 @@ requests =
     ∷ record { store = plain 4 3; input = requestBytes (readAt 5 5); space = 99; stop = 0; answered = 1; out = refuses 9 }
     ∷ record { store = full; input = requestBytes (write 6 (letter 1)); space = 99; stop = 0; answered = 1; out = refuses 4 }
     ∷ record { store = full; input = requestBytes (write 0 (letter 1)); space = 99; stop = 0; answered = 1; out = refuses 5 }
-    ∷ record { store = full; input = requestBytes (write 5 (letter 1)) ++ requestBytes (readAt 5 4); space = 999; stop = 0; answered = 2; out = says 4 ++ gives 4 1 }
+    ∷ record { store = full; input = requestBytes (write 5 (letter 1)) ++ requestBytes (readAt 5 4); space = 999; stop = 0; answered = 2; out = says 4 ++ gives 4 4 1 }
     ∷ record { store = storeWith (row 0 open-end 0 ∷ []) (zero-record ∷ []) (0 ∷ []) 0 0 0; input = requestBytes (write 0 (letter 1)) ++ requestBytes (write 1 (letter 2)); space = 99; stop = 0; answered = 2; out = says 0 ++ refuses 5 }
     ∷ record { store = storeWith (row 0 open-end 0 ∷ []) (zero-record ∷ zero-record ∷ []) (0 ∷ []) 0 0 0; input = requestBytes (write 0 (letter 1)) ++ requestBytes (write 1 (letter 2)); space = 99; stop = 0; answered = 2; out = says 0 ++ refuses 6 }
     ∷ record { store = plain 0 0; input = marks ++ reverts 0; space = 99; stop = 0; answered = 2; out = says 0 ++ refuses 7 }
@@ -102,7 +102,7 @@ requests =
       space = 999;
       stop = 0;
       answered = 8;
-      out = says 0 ++ (says 0 ++ (says 1 ++ (says 1 ++ (says 2 ++ (says 2 ++ (gives 2 3 ++ refuses 8))))));
+      out = says 0 ++ (says 0 ++ (says 1 ++ (says 1 ++ (says 2 ++ (says 2 ++ (gives 2 2 3 ++ refuses 8))))));
     }
     ∷ []
 
@@ -123,8 +123,8 @@ stops =
     ∷ record { store = plain 0 0; input = marks; space = 5; stop = 0; answered = 1; out = says 0 }
     ∷ record { store = plain 0 0; input = marks ++ marks; space = 9; stop = 14; answered = 1; out = says 0 }
     ∷ record { store = plain 0 0; input = reverts 0; space = 4; stop = 14; answered = 0; out = [] }
-    ∷ record { store = plain 0 0; input = writes 9 ++ reads 0; space = 265; stop = 14; answered = 1; out = says 0 }
-    ∷ record { store = plain 0 0; input = writes 9 ++ reads 0; space = 266; stop = 0; answered = 2; out = says 0 ++ gives 0 9 }
+    ∷ record { store = plain 0 0; input = writes 9 ++ reads 0; space = 269; stop = 14; answered = 1; out = says 0 }
+    ∷ record { store = plain 0 0; input = writes 9 ++ reads 0; space = 270; stop = 0; answered = 2; out = says 0 ++ gives 0 0 9 }
     ∷ record { store = plain 0 0; input = marks ++ (0x00 ∷ []); space = 5; stop = 11; answered = 1; out = says 0 }
     ∷ record { store = fresh 64 2 1 1 (replicate 256 0); input = marks ++ (reverts 0 ++ reads 2); space = 99; stop = 0; answered = 3; out = says 0 ++ (says 1 ++ says 2) }
     ∷ []

@@ -39,12 +39,12 @@ reads m = 0x80 ∷ 0x00 ∷ 0xA0 ∷ 0x00 ∷ 0x00 ∷ 0x00 ∷ m * 32 ∷ []
 abbrev pub reclaims : ℕ → List ℕ
 reclaims m = 0xA0 ∷ 0x00 ∷ 0x00 ∷ 0x00 ∷ 0x00 ∷ 0x00 ∷ m * 32 ∷ []
 
--- the bytes of answers: a number, a number with a page, a refusal
+-- the bytes of answers: a number; a number with a page and, between them, its date; a refusal
 abbrev pub says : ℕ → List ℕ
 says n = 0x00 ∷ 0x00 ∷ 0x00 ∷ 0x00 ∷ n ∷ []
 
-abbrev pub gives : ℕ → ℕ → List ℕ
-gives n l = 0x02 ∷ 0x00 ∷ 0x00 ∷ 0x00 ∷ n ∷ letter l
+abbrev pub gives : ℕ → ℕ → ℕ → List ℕ
+gives n date l = 0x02 ∷ 0x00 ∷ 0x00 ∷ 0x00 ∷ n ∷ 0x00 ∷ 0x00 ∷ 0x00 ∷ date ∷ letter l
 
 abbrev pub refuses : ℕ → List ℕ
 refuses r = r * 4 ∷ 0x00 ∷ 0x00 ∷ 0x00 ∷ 0x00 ∷ []
@@ -60,7 +60,7 @@ pub record Row : Type 0 where
 pub agrees : Store → List Row → Bool
 agrees s [] = true
 agrees s (e ∷ es) =
-    let r : Run = batch s (e .ask) 261 in
+    let r : Run = batch s (e .ask) 265 in
     eqb (r .stop) 0 && (sameList (r .out) (e .said) && (sameList (map (λ b. b .start) (branches (r .store))) (e .starts)
     && (eqb (r .store .head .records) (e .count) && agrees (r .store) es)))
 
@@ -74,17 +74,17 @@ p1-to-10 =
     ∷ record { ask = marks; said = says 1; starts = 0 ∷ []; count = 2 }
     ∷ record { ask = writes 67; said = says 2; starts = 0 ∷ []; count = 3 }
     ∷ record { ask = reverts 0; said = says 2; starts = 0 ∷ 3 ∷ []; count = 3 }
-    ∷ record { ask = reads 3; said = gives 3 65; starts = 0 ∷ 3 ∷ []; count = 3 }
+    ∷ record { ask = reads 3; said = gives 3 0 65; starts = 0 ∷ 3 ∷ []; count = 3 }
     ∷ record { ask = writes 68; said = says 3; starts = 0 ∷ 3 ∷ []; count = 4 }
     ∷ record { ask = reverts 2; said = says 3; starts = 0 ∷ 3 ∷ 4 ∷ []; count = 4 }
-    ∷ record { ask = reads 4; said = gives 4 67; starts = 0 ∷ 3 ∷ 4 ∷ []; count = 4 }
-    ∷ record { ask = reads 3; said = gives 3 68; starts = 0 ∷ 3 ∷ 4 ∷ []; count = 4 }
-    ∷ record { ask = reads 2; said = gives 2 67; starts = 0 ∷ 3 ∷ 4 ∷ []; count = 4 }
-    ∷ record { ask = reads 1; said = gives 1 66; starts = 0 ∷ 3 ∷ 4 ∷ []; count = 4 }
+    ∷ record { ask = reads 4; said = gives 4 2 67; starts = 0 ∷ 3 ∷ 4 ∷ []; count = 4 }
+    ∷ record { ask = reads 3; said = gives 3 3 68; starts = 0 ∷ 3 ∷ 4 ∷ []; count = 4 }
+    ∷ record { ask = reads 2; said = gives 2 2 67; starts = 0 ∷ 3 ∷ 4 ∷ []; count = 4 }
+    ∷ record { ask = reads 1; said = gives 1 1 66; starts = 0 ∷ 3 ∷ 4 ∷ []; count = 4 }
     ∷ record { ask = reclaims 3; said = says 2; starts = 0 ∷ 3 ∷ 4 ∷ []; count = 2 }
     ∷ record { ask = reads 2; said = refuses 8; starts = 0 ∷ 3 ∷ 4 ∷ []; count = 2 }
     ∷ record { ask = reclaims 4; said = says 1; starts = 0 ∷ 4 ∷ []; count = 1 }
-    ∷ record { ask = reads 4; said = gives 4 67; starts = 0 ∷ 4 ∷ []; count = 1 }
+    ∷ record { ask = reads 4; said = gives 4 2 67; starts = 0 ∷ 4 ∷ []; count = 1 }
     ∷ []
 
 -- P11: two writes to address 5 are one record. P12: after one mark a revert to 1 gets 9, then one to 0 gives number 1
@@ -92,7 +92,7 @@ abbrev pub p11 : List Row
 p11 =
     record { ask = writes 65; said = says 0; starts = 0 ∷ []; count = 1 }
     ∷ record { ask = writes 66; said = says 0; starts = 0 ∷ []; count = 1 }
-    ∷ record { ask = reads 0; said = gives 0 66; starts = 0 ∷ []; count = 1 }
+    ∷ record { ask = reads 0; said = gives 0 0 66; starts = 0 ∷ []; count = 1 }
     ∷ []
 
 abbrev pub p12 : List Row

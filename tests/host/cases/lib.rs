@@ -37,7 +37,15 @@ struct Run<'a> {
     always: bool,
 }
 
-impl Run<'_> {
+impl<'a> Run<'a> {
+    /// A fresh store of these sizes in areas of any bytes.
+    fn fresh_of(host: &'a mut dyn Host, draw: &mut Draw, sizes: &Sizes) -> Run<'a> {
+        let mut run = Run { host, areas: Areas::default(), always: true };
+        run.lend(drawn_areas(draw, sizes));
+        run.fresh(sizes.size);
+        run
+    }
+
     fn lend(&mut self, areas: Areas) {
         self.host.lend(&areas);
         self.areas = areas;
@@ -62,6 +70,21 @@ impl Run<'_> {
         (report, after)
     }
 
+    /// A batch whose answers are compared with the pile, too, if there is one.
+    fn batch_beside(&mut self, pile: &mut Option<Pile>, bytes: &[u8], before: &[u8]) -> Report {
+        let mut wrong = None;
+        let (report, _) = self.batch(bytes, before, |request, answer| {
+            let due = pile.as_mut().and_then(|pile| pile.take(request, answer.refusal != 0));
+            if due.is_some_and(|due| due != *answer) {
+                wrong = Some(format!("the answer to {request:?}"));
+            }
+        });
+        if let Some(what) = wrong {
+            self.host.pile_differs(&what);
+        }
+        report
+    }
+
     fn head(&self, index: usize) -> u32 {
         number_at(&self.areas.head, index)
     }
@@ -84,7 +107,7 @@ fn most_answer_bytes(bytes: &[u8]) -> usize {
         let writes = bytes[at] >> 5 == 1;
         let reads = bytes[at] >> 5 == 4;
         at += if writes { 7 + PAGE } else { 7 };
-        most += if reads { 5 + PAGE } else { 5 };
+        most += if reads { PAGE_ANSWER_BYTES } else { ANSWER_BYTES };
     }
     most
 }
@@ -117,18 +140,7 @@ fn run_batches(run: &mut Run, draw: &mut Draw, batches: u64, most: u64, pile: &m
         waiting.extend(more);
         let cut = if draw.percent(30) { draw.below(waiting.len() as u64 + 1) as usize } else { waiting.len() };
         let area = drawn_answer_area(draw, &run.areas, &waiting[..cut]);
-        let mut wrong_number = None;
-        let (report, _) = run.batch(&waiting[..cut], &area, |request, answer| {
-            if let Some(pile) = pile {
-                let number = pile.take(request, answer.refusal != 0);
-                if number.is_some() && number != Some(answer.number) {
-                    wrong_number = Some(format!("number {} of {:?}", answer.number, request));
-                }
-            }
-        });
-        if let Some(what) = wrong_number {
-            run.host.pile_differs(&what);
-        }
+        let report = run.batch_beside(pile, &waiting[..cut], &area);
         if draw.percent(60) {
             let unread = if report.stop == 12 || report.stop == 13 { draw.one_of(&[1, 7]) as usize } else { 0 };
             let dropped = (report.request_bytes as usize + unread).min(waiting.len());
@@ -143,7 +155,7 @@ fn run_batches(run: &mut Run, draw: &mut Draw, batches: u64, most: u64, pile: &m
 }
 
 /// A read of every address below the size and below 6, at every readable moment, a few hundred at most.
-fn read_all(run: &mut Run, draw: &mut Draw, pile: &Option<Pile>) {
+fn read_all(run: &mut Run, draw: &mut Draw, pile: &mut Option<Pile>) {
     let outlook = run.outlook();
     let mut bytes = Vec::new();
     for moment in outlook.floor..=outlook.now.min(outlook.floor + 60) {
@@ -151,19 +163,8 @@ fn read_all(run: &mut Run, draw: &mut Draw, pile: &Option<Pile>) {
             bytes.extend(read(address, moment));
         }
     }
-    let area = draw.bytes(261 * bytes.len() / 7);
-    let mut wrong = None;
-    run.batch(&bytes, &area, |request, answer| {
-        if let (Some(pile), Request::Read { address, moment }) = (pile, request) {
-            let right = answer.refusal == 0 && answer.number == *moment;
-            if !right || answer.page.as_deref() != pile.page(*address, *moment) {
-                wrong = Some(format!("read of {address} at {moment}"));
-            }
-        }
-    });
-    if let Some(what) = wrong {
-        run.host.pile_differs(&what);
-    }
+    let area = draw.bytes(PAGE_ANSWER_BYTES * bytes.len() / 7);
+    run.batch_beside(pile, &bytes, &area);
 }
 
 /// Moves now forward by hand, so that the last moments come up; the tables stay sound.
@@ -180,7 +181,8 @@ fn jump(run: &mut Run, draw: &mut Draw) {
     run.lend(areas);
 }
 
-/// The document's session, one request a batch, its small examples of refusals, and its whole case.
+/// The session of document 01, one request a batch, its small examples of refusals, and its whole case; the
+/// space that a page with its date needs.
 pub fn examples(host: &mut dyn Host, seed: u64) {
     let draw = &mut Draw::new(seed);
     let page = |letter: u8| [letter; PAGE];
@@ -219,17 +221,20 @@ pub fn examples(host: &mut dyn Host, seed: u64) {
         ((6, 1, 1, 1), vec![vec![0x40, 0, 0], vec![0; 7], vec![0x40, 0, 0, 0, 0, 0, 1]]),
     ];
     for ((size, branches, records, places), batches) in lists {
-        let sizes = Sizes { size, branches, records, places };
-        let mut run = Run { host: &mut *host, areas: Areas::default(), always: true };
-        run.lend(drawn_areas(draw, &sizes));
-        run.fresh(size);
+        let mut run = Run::fresh_of(host, draw, &Sizes { size, branches, records, places });
         for bytes in batches {
             let area = draw.bytes(300);
             run.batch(&bytes, &area, |_, _| {});
         }
         run.batch(&mark(), &[1, 2, 3, 4], |_, _| {});
     }
-    host.end("the document's examples");
+    // A write and a read that finds its page: their answers have 5 and 265 bytes.
+    for space in [4, 5, 265, 266, 269, 270, 271] {
+        let mut run = Run::fresh_of(host, draw, &Sizes { size: 6, branches: 1, records: 1, places: 1 });
+        let area = draw.bytes(space);
+        run.batch(&[write(5, &page(b'A')), read(5, 0)].concat(), &area, |_, _| {});
+    }
+    host.end("the documents' examples");
 }
 
 /// Lists over small tables from a fresh store, so that every refusal comes up.
@@ -237,14 +242,12 @@ pub fn lists(host: &mut dyn Host, seed: u64, count: u64) {
     for list in 0..count {
         let draw = &mut Draw::new(seed ^ (list + 1).wrapping_mul(0xA24B_AED4_963E_E407));
         let sizes = drawn_sizes(draw);
-        let mut run = Run { host: &mut *host, areas: Areas::default(), always: true };
-        run.lend(drawn_areas(draw, &sizes));
-        run.fresh(sizes.size);
+        let mut run = Run::fresh_of(host, draw, &sizes);
         // The pile is compared where it is small and nobody else writes to the head.
         let mut pile = if sizes.size <= 16 { Some(Pile::new(sizes.size)) } else { None };
         let batches = draw.within(2, 24);
         run_batches(&mut run, draw, batches, 16, &mut pile);
-        read_all(&mut run, draw, &pile);
+        read_all(&mut run, draw, &mut pile);
         if let Some(what) = pile.as_ref().and_then(|pile| pile.difference(&run.areas)) {
             run.host.pile_differs(&what);
         }
@@ -267,9 +270,7 @@ pub fn longer_lists(host: &mut dyn Host, seed: u64, count: u64) {
             records,
             places: (records as u64 + draw.within(0, 100) - 50).max(1) as usize,
         };
-        let mut run = Run { host: &mut *host, areas: Areas::default(), always: true };
-        run.lend(drawn_areas(draw, &sizes));
-        run.fresh(sizes.size);
+        let mut run = Run::fresh_of(host, draw, &sizes);
         for _ in 0..draw.within(4, 10) {
             run_batches(&mut run, draw, 4, 100, &mut None);
         }
@@ -373,9 +374,7 @@ pub fn empty_areas(host: &mut dyn Host, seed: u64) {
     let draw = &mut Draw::new(seed);
     for which in 0..7 {
         let sizes = Sizes { size: 5, branches: 3, records: 3, places: 3 };
-        let mut run = Run { host: &mut *host, areas: Areas::default(), always: true };
-        run.lend(drawn_areas(draw, &sizes));
-        run.fresh(5);
+        let mut run = Run::fresh_of(host, draw, &sizes);
         let mut areas = run.areas.clone();
         if which < 5 {
             area_of(&mut areas, which).clear();
@@ -388,9 +387,7 @@ pub fn empty_areas(host: &mut dyn Host, seed: u64) {
     }
     for room in [350_000, 349_999, 400_000] {
         let sizes = Sizes { size: 5, branches: 3, records: 3, places: 3 };
-        let mut run = Run { host: &mut *host, areas: Areas::default(), always: true };
-        run.lend(drawn_areas(draw, &sizes));
-        run.fresh(5);
+        let mut run = Run::fresh_of(host, draw, &sizes);
         let area = draw.bytes(room);
         run.batch(&mark().repeat(70_000), &area, |_, _| {});
         run.batch(&[write(0, &[1; PAGE]), revert(65_536), reclaim(65_537)].concat(), &area, |_, _| {});
@@ -462,7 +459,7 @@ pub fn hundred_years(host: &mut dyn Host, seed: u64, weeks: u64, interval: u64) 
                 bytes.extend(write(128 * group + page, &draw.bytes(PAGE)));
             }
         }
-        run.batch(&bytes, &[0x11; 5 * 800], |_, _| {});
+        run.batch(&bytes, &[0x11; ANSWER_BYTES * 800], |_, _| {});
     }
     run.host.compare(&run.areas);
 
@@ -501,7 +498,7 @@ pub fn hundred_years(host: &mut dyn Host, seed: u64, weeks: u64, interval: u64) 
             bytes.extend(read(128 * group, now));
         }
         let mut sealed = None;
-        run.batch(&bytes, &[0x22; 261 * 60], |request, answer| {
+        run.batch(&bytes, &[0x22; PAGE_ANSWER_BYTES * 60], |request, answer| {
             if matches!(request, Request::Revert { .. }) && answer.refusal == 0 {
                 sealed = Some(u64::from(answer.number));
             }

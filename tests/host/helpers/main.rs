@@ -2,7 +2,8 @@
 //! number is eight bytes, least significant first; an area is its length and its bytes. Records:
 //! K numbers                                   the reference's sizes
 //! Q operation address moment page bytes       a request as the reference reads these bytes; page empty if there is none
-//! A refusal number page bytes                 an answer and the bytes that the reference writes for it
+//! A refusal number date page bytes            an answer and the bytes that the reference writes for it; date 0 and page
+//!                                             empty if there is none
 //! Z                                           the end
 
 use reference::*;
@@ -73,12 +74,15 @@ fn request(out: &mut Out, drawn: &mut Drawn, operation: u64, between: u64) {
     out.area(&bytes);
 }
 
-fn answer(out: &mut Out, refusal: u32, number: u32, page: Option<Vec<u8>>) {
-    let answer = Answer { refusal, number, page };
+fn answer(out: &mut Out, refusal: u32, number: u32, found: Option<DatedPage>) {
+    let answer = Answer { refusal, number, found };
+    let none = DatedPage { date: 0, page: Vec::new() };
+    let found = answer.found.as_ref().unwrap_or(&none);
     out.bytes(b"A");
     out.number(u64::from(refusal));
     out.number(u64::from(number));
-    out.area(answer.page.as_deref().unwrap_or(&[]));
+    out.number(u64::from(found.date));
+    out.area(&found.page);
     out.area(&answer_bytes(&answer));
 }
 
@@ -92,6 +96,9 @@ fn main() {
     }
     out.number(u64::from(LARGEST_SIZE));
     out.number(u64::from(OPEN_END));
+    for length in [ANSWER_BYTES, DATE_BYTES, PAGE_ANSWER_BYTES] {
+        out.number(length as u64);
+    }
     for operation in 1..=5 {
         // No bit, all bits, each bit alone, each bit missing, and any.
         request(&mut out, &mut drawn, operation, 0);
@@ -108,13 +115,17 @@ fn main() {
     for refusal in 4..=10 {
         answer(&mut out, refusal, 0, None);
     }
-    let mut numbers = vec![0, u32::MAX];
+    // No bit, all bits, four different bytes, each bit alone, and any: as a number, and as a date.
+    let mut numbers = vec![0, u32::MAX, 0x0123_4567, 0x89AB_CDEF];
     numbers.extend((0..32).map(|bit| 1 << bit));
-    numbers.extend((0..2_000).map(|_| drawn.next() as u32));
+    numbers.extend((0..1_000).map(|_| drawn.next() as u32));
     for number in numbers {
+        let other = drawn.next() as u32;
         answer(&mut out, 0, number, None);
-        let page = drawn.page();
-        answer(&mut out, 0, number, Some(page));
+        for (number, date) in [(number, other), (other, number), (number, number)] {
+            let page = drawn.page();
+            answer(&mut out, 0, number, Some(DatedPage { date, page }));
+        }
     }
     out.bytes(b"Z");
     if out.0.flush().is_err() {

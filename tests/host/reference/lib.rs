@@ -1,7 +1,8 @@
-//! The page history store of document 01, written from that document alone and as plainly as it reads.
-//! It works on the same byte areas as the library that it is compared with: every number of head and
-//! tables is four bytes, most significant first. Each batch turns the bytes into rows, checks them,
-//! serves the requests on the rows and turns the rows back into bytes.
+//! The page history store of document 01, with change request One of document 02, written from these
+//! documents alone and as plainly as they read. It works on the same byte areas as the library that it
+//! is compared with: every number of head and tables is four bytes, most significant first. Each batch
+//! turns the bytes into rows, checks them, serves the requests on the rows and turns the rows back into
+//! bytes.
 
 /// The end of the branch that is still open.
 pub const OPEN_END: u32 = 4_294_967_295;
@@ -10,6 +11,10 @@ pub const HEAD_BYTES: usize = 20;
 pub const BRANCH_BYTES: usize = 12;
 pub const RECORD_BYTES: usize = 12;
 pub const PLACE_BYTES: usize = 4;
+/// An answer, a found page's date, and an answer with date and page.
+pub const ANSWER_BYTES: usize = 5;
+pub const DATE_BYTES: usize = 4;
+pub const PAGE_ANSWER_BYTES: usize = ANSWER_BYTES + DATE_BYTES + PAGE;
 pub const MOST_BRANCHES: usize = 4_096;
 pub const MOST_RECORDS: usize = 65_536;
 pub const MOST_PLACES: usize = 65_536;
@@ -71,12 +76,19 @@ pub enum Request {
     Reclaim { moment: u32 },
 }
 
+/// A page with its date: the moment at which it was written.
+#[derive(Clone, Debug, PartialEq, Eq)]
+pub struct DatedPage {
+    pub date: u32,
+    pub page: Vec<u8>,
+}
+
 /// An answer before it is written out: a refusal has number 0 and no page.
 #[derive(Clone, Debug, PartialEq, Eq)]
 pub struct Answer {
     pub refusal: u32,
     pub number: u32,
-    pub page: Option<Vec<u8>>,
+    pub found: Option<DatedPage>,
 }
 
 /// For each counted record row and each counted branch row: does a reclaim keep it?
@@ -178,6 +190,12 @@ fn bytes_of(store: Store, areas: &mut Areas) {
         set_number_at(row, 0, *place);
     }
     areas.slab = store.slab;
+}
+
+/// The page of a record, dated with the record's moment.
+pub fn dated_page(record: &Record, slab: &[u8]) -> DatedPage {
+    let from = PAGE * record.place as usize;
+    DatedPage { date: record.moment, page: slab[from..from + PAGE].to_vec() }
 }
 
 // ---------------------------------------------------------------------------------------------
@@ -336,11 +354,6 @@ impl Store {
             }
             moment = self.branches[branch].cut;
         }
-    }
-
-    fn page_at(&self, place: u32) -> &[u8] {
-        let from = PAGE * place as usize;
-        &self.slab[from..from + PAGE]
     }
 
     // -----------------------------------------------------------------------------------------
@@ -585,10 +598,10 @@ impl Store {
     fn decide(&self, request: &Request) -> (Answer, Change) {
         let refusal = self.refusal(request);
         if refusal != 0 {
-            return (Answer { refusal, number: 0, page: None }, Change::Nothing);
+            return (Answer { refusal, number: 0, found: None }, Change::Nothing);
         }
         let now = self.head.now;
-        let mut answer = Answer { refusal: 0, number: now, page: None };
+        let mut answer = Answer { refusal: 0, number: now, found: None };
         let change = match request {
             Request::Write { address, page } => Change::Write { address: *address, page: page.clone() },
             Request::Mark => Change::Mark,
@@ -596,7 +609,7 @@ impl Store {
             Request::Read { address, moment } => {
                 answer.number = *moment;
                 let row = self.find(*address, *moment);
-                answer.page = row.map(|row| self.page_at(self.records[row].place).to_vec());
+                answer.found = row.map(|row| dated_page(&self.records[row], &self.slab));
                 Change::Nothing
             }
             Request::Reclaim { moment } => {
@@ -659,12 +672,13 @@ pub fn read_request(bytes: &[u8]) -> Result<(Request, usize), u32> {
 }
 
 pub fn answer_bytes(answer: &Answer) -> Vec<u8> {
-    let present = u32::from(answer.page.is_some());
+    let present = u32::from(answer.found.is_some());
     // Refusal 6 bits, page present 1 bit, spare 1 bit.
     let mut bytes = vec![(answer.refusal * 4 + present * 2) as u8];
     bytes.extend_from_slice(&answer.number.to_be_bytes());
-    if let Some(page) = &answer.page {
-        bytes.extend_from_slice(page);
+    if let Some(found) = &answer.found {
+        bytes.extend_from_slice(&found.date.to_be_bytes());
+        bytes.extend_from_slice(&found.page);
     }
     bytes
 }

@@ -1,12 +1,12 @@
 //! The pile of pictures of document 01: a whole picture for each moment. It is fed the answered
 //! requests and, of each answer, only whether it is a refusal.
 
-use crate::{Areas, Request, PAGE};
+use crate::{dated_page, Answer, Areas, DatedPage, Request};
 use std::collections::BTreeSet;
 use std::rc::Rc;
 
-/// For each address no page, or its bytes with the moment of their write.
-type Picture = Vec<Option<(Rc<Vec<u8>>, u32)>>;
+/// For each address no page, or its bytes with the moment of their write, which is their date.
+type Picture = Vec<Option<Rc<DatedPage>>>;
 
 pub struct Pile {
     pub now: u32,
@@ -20,41 +20,53 @@ impl Pile {
         Pile { now: 0, floor: 0, pictures: vec![vec![None; size as usize]], held: BTreeSet::new() }
     }
 
-    /// Takes one answered request; the result is the number that the document claims of the answer
-    /// of an accepted write, mark, revert or reclaim.
-    pub fn take(&mut self, request: &Request, refused: bool) -> Option<u32> {
-        if refused {
-            return None;
-        }
+    /// Takes one answered request; the result is the answer that the documents claim, if they claim one:
+    /// to a read at a readable moment, and to any other request that is accepted.
+    pub fn take(&mut self, request: &Request, refused: bool) -> Option<Answer> {
+        let accepted = |number| Some(Answer { refusal: 0, number, found: None });
         let before = self.now;
         match request {
+            Request::Read { address, moment } => self.read(*address, *moment),
+            _ if refused => None,
             Request::Write { address, page } => {
-                let last = self.pictures.len() - 1;
-                self.pictures[last][*address as usize] = Some((Rc::new(page.clone()), before));
+                let written = DatedPage { date: before, page: page.clone() };
+                self.pictures[before as usize][*address as usize] = Some(Rc::new(written));
                 self.held.insert((*address, before));
-                Some(before)
+                accepted(before)
             }
             Request::Mark => {
-                let copy = self.pictures[before as usize].clone();
-                self.pictures.push(copy);
-                self.now += 1;
-                Some(before)
+                self.add_copy(before);
+                accepted(before)
             }
             Request::Revert { moment } => {
-                let copy = self.pictures[*moment as usize].clone();
-                self.pictures.push(copy);
-                self.now += 1;
-                Some(before)
+                self.add_copy(*moment);
+                accepted(before)
             }
-            Request::Read { .. } => None,
             Request::Reclaim { moment } => {
                 self.floor = *moment;
                 let shown = self.shown();
                 let held_before = self.held.len();
                 self.held.retain(|pair| shown.contains(pair));
-                Some((held_before - self.held.len()) as u32)
+                accepted((held_before - self.held.len()) as u32)
             }
         }
+    }
+
+    /// The answer to a read of an address below the size at a readable moment.
+    fn read(&self, address: u32, moment: u32) -> Option<Answer> {
+        let below_size = (address as usize) < self.pictures[0].len();
+        let readable = (self.floor..=self.now).contains(&moment);
+        (below_size && readable).then(|| {
+            let found = self.page(address, moment).cloned();
+            Answer { refusal: 0, number: moment, found }
+        })
+    }
+
+    /// Picture now+1 is a copy of the picture of this moment; then now grows by 1.
+    fn add_copy(&mut self, moment: u32) {
+        let copy = self.pictures[moment as usize].clone();
+        self.pictures.push(copy);
+        self.now += 1;
     }
 
     /// Address and moment of every page in a readable picture.
@@ -62,16 +74,16 @@ impl Pile {
         let mut shown = BTreeSet::new();
         for moment in self.floor..=self.now {
             for (address, page) in self.pictures[moment as usize].iter().enumerate() {
-                if let Some((_, written)) = page {
-                    shown.insert((address as u32, *written));
+                if let Some(page) = page {
+                    shown.insert((address as u32, page.date));
                 }
             }
         }
         shown
     }
 
-    pub fn page(&self, address: u32, moment: u32) -> Option<&[u8]> {
-        self.pictures[moment as usize][address as usize].as_ref().map(|(bytes, _)| bytes.as_slice())
+    fn page(&self, address: u32, moment: u32) -> Option<&DatedPage> {
+        self.pictures[moment as usize][address as usize].as_deref()
     }
 
     /// Compares a store with the pile, as the document claims it after every list: the first
@@ -92,12 +104,10 @@ impl Pile {
         }
         for moment in self.floor..=self.now {
             for address in 0..store.head.size {
-                let page = store.find(address, moment).map(|row| {
-                    let from = PAGE * store.records[row].place as usize;
-                    &areas.slab[from..from + PAGE]
-                });
-                if page != self.page(address, moment) {
-                    return Some(format!("page at address {address}, moment {moment}"));
+                let row = store.find(address, moment);
+                let found = row.map(|row| dated_page(&store.records[row], &areas.slab));
+                if found.as_ref() != self.page(address, moment) {
+                    return Some(format!("page or date at address {address}, moment {moment}"));
                 }
             }
         }

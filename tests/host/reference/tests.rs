@@ -1,4 +1,4 @@
-//! The document's own examples.
+//! The documents' own examples.
 
 use super::*;
 
@@ -45,9 +45,10 @@ fn reclaim(moment: u64) -> Vec<u8> {
     packed(5, 0, moment)
 }
 
-fn answers(areas: &mut Areas, requests: &[Vec<u8>]) -> Vec<(u32, u32, Option<u8>)> {
+/// The answers to these requests: refusal, number, and of a page its letter and date.
+fn answers(areas: &mut Areas, requests: &[Vec<u8>]) -> Vec<(u32, u32, Option<(u8, u32)>)> {
     let bytes = requests.concat();
-    let mut area = vec![0x77; 5 * requests.len() + PAGE * requests.len()];
+    let mut area = vec![0x77; PAGE_ANSWER_BYTES * requests.len()];
     let report = batch(areas, &bytes, &mut area);
     assert_eq!(report.stop, 0);
     assert_eq!(report.answered, requests.len() as u64);
@@ -57,16 +58,18 @@ fn answers(areas: &mut Areas, requests: &[Vec<u8>]) -> Vec<(u32, u32, Option<u8>
     let mut at = 0;
     while at < report.answer_bytes as usize {
         let first = area[at];
-        let number = u32::from_be_bytes([area[at + 1], area[at + 2], area[at + 3], area[at + 4]]);
+        let number = number_at(&area[at + 1..], 0);
         at += 5;
-        let mut page = None;
+        let mut found = None;
         assert_eq!(first & 1, 0);
         if first & 2 != 0 {
-            page = Some(area[at]);
-            assert!(area[at..at + PAGE].iter().all(|byte| Some(*byte) == page));
+            let letter = area[at + 4];
+            found = Some((letter, number_at(&area[at..], 0)));
+            at += 4;
+            assert!(area[at..at + PAGE].iter().all(|byte| *byte == letter));
             at += PAGE;
         }
-        list.push((u32::from(first >> 2), number, page));
+        list.push((u32::from(first >> 2), number, found));
     }
     list
 }
@@ -79,15 +82,15 @@ fn session() {
     assert_eq!(answers(&mut store, &[write(5, b'B'), mark()]), [(0, 1, None), (0, 1, None)]); // P3
     assert_eq!(
         answers(&mut store, &[write(5, b'C'), revert(0), read(5, 3)]),
-        [(0, 2, None), (0, 2, None), (0, 3, Some(b'A'))]
+        [(0, 2, None), (0, 2, None), (0, 3, Some((b'A', 0)))]
     ); // P4
     assert_eq!(
         answers(&mut store, &[write(5, b'D'), revert(2), read(5, 4)]),
-        [(0, 3, None), (0, 3, None), (0, 4, Some(b'C'))]
+        [(0, 3, None), (0, 3, None), (0, 4, Some((b'C', 2)))]
     ); // P5
     assert_eq!(
         answers(&mut store, &[read(5, 3), read(5, 2), read(5, 1)]),
-        [(0, 3, Some(b'D')), (0, 2, Some(b'C')), (0, 1, Some(b'B'))]
+        [(0, 3, Some((b'D', 3))), (0, 2, Some((b'C', 2))), (0, 1, Some((b'B', 1)))]
     ); // P6
     let slab = store.slab.clone();
     assert_eq!(answers(&mut store, &[reclaim(3)]), [(0, 2, None)]); // P7
@@ -101,7 +104,7 @@ fn session() {
     assert!(left.records[1..].iter().all(|row| (row.address, row.moment, row.place) == (0, 0, 0)));
     assert_eq!(left.places.iter().filter(|place| **place != 0).count(), 1);
     assert_eq!(store.slab, slab);
-    assert_eq!(answers(&mut store, &[read(5, 4)]), [(0, 4, Some(b'C'))]); // P10
+    assert_eq!(answers(&mut store, &[read(5, 4)]), [(0, 4, Some((b'C', 2)))]); // P10
 
     let mut store = made(64, 16, 128, 128);
     answers(&mut store, &[write(5, b'A'), write(5, b'B')]);
@@ -110,6 +113,19 @@ fn session() {
     // P12
     let mut store = made(64, 16, 128, 128);
     assert_eq!(answers(&mut store, &[mark(), revert(1), revert(0)]), [(0, 0, None), (9, 0, None), (0, 1, None)]);
+}
+
+/// Every byte of the answer to a read: a found page with its date between number and page, and an absent one.
+#[test]
+fn answers_to_reads() {
+    let mut store = made(6, 1, 2, 2);
+    set_head(&mut store, [6, 1, 0, 0x0102_0304, 0]);
+    let list = [write(0, b'A'), mark(), read(0, 0x0102_0305), read(0, 0x0102_0303)].concat();
+    let mut area = [0x77; 10 + 265 + 5];
+    assert_eq!(batch(&mut store, &list, &mut area).answer_bytes, 280);
+    assert_eq!(area[10..19], [2, 1, 2, 3, 5, 1, 2, 3, 4]);
+    assert_eq!(area[19..275], [b'A'; 256]);
+    assert_eq!(area[275..], [0, 1, 2, 3, 3]);
 }
 
 #[test]
@@ -203,7 +219,7 @@ fn refusals_4_to_10() {
     assert_eq!(answers(&mut made(6, 2, 2, 2), &[read(6, 0)]), [(4, 0, None)]);
     assert_eq!(
         answers(&mut made(6, 1, 1, 2), &[write(0, 1), write(1, 1), write(0, 2), read(0, 0)]),
-        [(0, 0, None), (5, 0, None), (0, 0, None), (0, 0, Some(2))]
+        [(0, 0, None), (5, 0, None), (0, 0, None), (0, 0, Some((2, 0)))]
     );
     assert_eq!(answers(&mut made(6, 1, 2, 1), &[write(0, 1), write(1, 1)]), [(0, 0, None), (6, 0, None)]);
     assert_eq!(answers(&mut made(6, 1, 2, 1), &[mark(), revert(0)]), [(0, 0, None), (7, 0, None)]);
@@ -216,7 +232,7 @@ fn refusals_4_to_10() {
     set_head(&mut store, [6, 1, 0, OPEN_END, 0]);
     assert_eq!(
         answers(&mut store, &[mark(), revert(OPEN_END as u64), revert(3), write(2, 9), read(2, OPEN_END as u64)]),
-        [(10, 0, None), (9, 0, None), (10, 0, None), (0, OPEN_END, None), (0, OPEN_END, Some(9))]
+        [(10, 0, None), (9, 0, None), (10, 0, None), (0, OPEN_END, None), (0, OPEN_END, Some((9, OPEN_END)))]
     );
 }
 
@@ -235,9 +251,11 @@ fn stops_11_to_14() {
     assert_eq!(stop(&write(0, 1)[..262], 0).stop, 11);
     assert_eq!(stop(&mark(), 4), Report { stop: 14, ..Report::default() });
     assert_eq!(stop(&mark(), 5), Report { stop: 0, answered: 1, request_bytes: 7, answer_bytes: 5 });
-    let list = [write(0, 1), mark(), read(0, 0)].concat();
-    assert_eq!(stop(&list, 10 + 260), Report { stop: 14, answered: 2, request_bytes: 270, answer_bytes: 10 });
-    assert_eq!(stop(&list, 10 + 261), Report { stop: 0, answered: 3, request_bytes: 277, answer_bytes: 271 });
+    let list = [write(0, 1), read(0, 0)].concat();
+    assert_eq!(stop(&list, 269), Report { stop: 14, answered: 1, request_bytes: 263, answer_bytes: 5 });
+    assert_eq!(stop(&list, 270), Report { stop: 0, answered: 2, request_bytes: 270, answer_bytes: 270 });
+    // An absent page has no date, and its answer fits where any other without a page does.
+    assert_eq!(stop(&read(0, 0), 5), Report { stop: 0, answered: 1, request_bytes: 7, answer_bytes: 5 });
     // A refusal that does not fit is a stop, too.
     assert_eq!(stop(&read(9, 0), 4).stop, 14);
     // A request that does not fit is not carried out.
@@ -253,7 +271,7 @@ fn reclaim_keeps_by_branch() {
     let mut store = made(6, 4, 8, 8);
     answers(&mut store, &[write(1, b'A'), mark(), write(1, b'B'), mark(), revert(0)]);
     // Now 3, in the branch cut at 0: only A is read from 3 on.
-    assert_eq!(answers(&mut store, &[reclaim(3), read(1, 3)]), [(0, 1, None), (0, 3, Some(b'A'))]);
+    assert_eq!(answers(&mut store, &[reclaim(3), read(1, 3)]), [(0, 1, None), (0, 3, Some((b'A', 0)))]);
     assert_eq!(answers(&mut store, &[reclaim(3)]), [(0, 0, None)]);
 }
 

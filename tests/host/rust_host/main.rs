@@ -2,7 +2,7 @@
 //! with what the reference says.
 
 use cases::{Counts, Host};
-use reference::{Areas, Report};
+use reference::{Areas, Report, ANSWER_BYTES, PAGE_ANSWER_BYTES};
 
 extern "C" {
     fn kizmoolet_fresh(
@@ -116,9 +116,9 @@ impl RustHost {
     fn count_refusals(&mut self, answer_bytes: usize) {
         let mut at = 0;
         let answers = self.answers.contents();
-        while at + 5 <= answer_bytes {
+        while at + ANSWER_BYTES <= answer_bytes {
             self.counts.refusals[usize::from(answers[at] >> 2) & 15] += 1;
-            at += if answers[at] & 2 != 0 { 261 } else { 5 };
+            at += if answers[at] & 2 != 0 { PAGE_ANSWER_BYTES } else { ANSWER_BYTES };
         }
     }
 }
