@@ -95,7 +95,7 @@ module _ (x : Answer) where
   size-absent e = sized none e
 
   pub size-found : (p : Page) → x .page ≡ some p → length (p .bytes) ≡ 256 → length (answerBytes x) ≡ 265
-  size-found p e w = omega (arith, sized (some p) e, length-append (bytes 4 (p .moment)) (p .bytes), length-bytes 4 (p .moment))
+  size-found p e w = omega (arith, simp (length-append, length-bytes) at (sized (some p) e))
 
 -- what a receiver reads behind the five bytes: the date in four, then the page; nothing where none is present
 abbrev pub PageRead : Option Page → List ℕ → Type 0
