@@ -61,18 +61,18 @@ head c =
 abbrev date : tie.After-found → List ℕ
 date c = bytes 4 (c .found .given .0 .0 .moment)
 
-length-dated : (c : tie.After-found) → length (head c ++ date c) ≡ 9
-length-dated c =
-    let s = start-from-found c in
-    omega (arith, length-append (head c) (date c), length-head (s .args .r .refusal) 1 (s .args .r .value), length-bytes 4 (c .found .given .0 .0 .moment))
+five : (c : tie.After-found) → length (head c) ≡ 5
+five c = length-head _ 1 _
+
+nine : (c : tie.After-found) → length (head c ++ date c) ≡ 9
+nine c = omega (arith, length-append (head c) (date c), five c, length-bytes 4 (c .found .given .0 .0 .moment))
 
 -- the head leaves the area's length
 headed : (c : tie.After-put-head2) → 265 ≤ length (c .put-head2 .last .0)
 headed c =
     let f = found-from-head c in
-    let s = start-from-found f in
-    let out = now (s .args .out) in
-    let fits : length (head f) ≤ length out = omega (arith, length-head (s .args .r .refusal) 1 (s .args .r .value), room f) in
+    let out = now ((start-from-found f) .args .out) in
+    let fits : length (head f) ≤ length out = omega (arith, five f, room f) in
     omega (arith, ap length (c .put-head2 .ensures), length-front (head f) out fits, room f)
 
 -- the area with the date behind the head
@@ -91,13 +91,11 @@ module _ (c : tie.After-put-number) where
   dated : dated-area c ≡ inFront (head found ++ date found) area
   dated =
       let h = head-from-number c in
-      let s = start-from-found found in
-      front-then (head found) (date found) area (h .put-head2 .last .0) _ 5 (length-head (s .args .r .refusal) 1 (s .args .r .value))
-      (h .put-head2 .ensures) (c .put-number .ensures)
+      front-then (head found) (date found) area (h .put-head2 .last .0) _ 5 (five found) (h .put-head2 .ensures) (c .put-number .ensures)
 
   dated-room : 265 ≤ length (dated-area c)
   dated-room =
-      let fits : length (head found ++ date found) ≤ length area = omega (arith, length-dated found, room found) in
+      let fits : length (head found ++ date found) ≤ length area = omega (arith, nine found, room found) in
       omega (arith, ap length dated, length-front (head found ++ date found) area fits, room found)
 
 sub-put-number : tie.Need-sub-put-number
@@ -155,7 +153,7 @@ returns-2 c =
     let slab = now (s .args .slab) in
     let page = pageAt slab (f .found .given .0 .0 .place) in (
       sym (size-page (s .args .r) slab _ e (s .pre .1)),
-      front-then (head f ++ date f) page out (dated-area n) _ 9 (length-dated f) (dated n) (p .put-page .ensures)
+      front-then (head f ++ date f) page out (dated-area n) _ 9 (nine f) (dated n) (p .put-page .ensures)
           ∙ ap (λ (l : List ℕ). inFront l out) (append-assoc (head f) (date f) page ∙ sym (sent-page (s .args .r) slab _ e)),
     )
 
