@@ -76,7 +76,7 @@ module _ (s c : Store) (k : Copy s c) where
         now-high = rw h (z .now-high);
       }
 
-  copy-sound : Sound s → Sound c
+  pub copy-sound : Sound s → Sound c
   copy-sound h =
       record {
         sizes = copy-sizes (h .sizes);
