@@ -63,7 +63,7 @@
  * that a reclaim freed earlier in the same batch are among the free ones. A write to an address that has a record at now
  * overwrites the page in its own place. No page is ever moved. So the slab is used up to a certain byte, which
  * kizmoolet_slab_in_use (kizmoolet_requests.h) tells from the place table, and which grows only while no place below it is
- * free. It is never past 256 times the most records that were counted at once.
+ * free. In a store begun by kizmoolet_fresh it is never past 256 times the most records that were counted at once.
  *
  * Head, tables and the slab up to that byte are a whole copy of the store: whatever bytes lie behind it, every read answers the
  * same. The areas of a copy may also be longer than those it was made from: with any bytes behind the branch and record rows,

@@ -1,6 +1,6 @@
 -- Change request Two of the C entries: the model's claims, and areas of bytes that hold a copy.
 use Prim.Native.Nat.{ℕ, zero, suc, _+_, _*_, _/_, _≤_, _<_, suc-le-suc}
-use mathlib.Core.Path.{_≡_, refl, sym, ap, _∙_}
+use mathlib.Core.Path.{_≡_, refl, sym, ap, subst, _∙_}
 use mathlib.Core.Logic.{inl, inr}
 use mathlib.Core.List.{List, _++_, map}
 use native.Mathlib.Omega.{arith}
@@ -11,7 +11,7 @@ use Rattle.model.specs.Wire.{number}
 use Rattle.model.specs.Fresh.{madeFresh}
 use Rattle.model.specs.Reference.{empty}
 use Rattle.model.specs.Demand3.{after, answered, fed, Agrees}
-use Rattle.model.specs.Packed.{HeldUpTo, Copy}
+use Rattle.model.specs.Packed.{slabInUse, HeldUpTo, Copy}
 use Rattle.model.proofs.Bytes.{number-fits, take-fits}
 use Rattle.model.proofs.Kept.{Small, SmallBranch, SmallRecord, All, all-get, Narrow}
 use Rattle.model.proofs.Copies.{copy-sound, stays-packed, copies-agree}
@@ -35,7 +35,7 @@ stays-packed-bytes lent size calls n z u =
     let s : Store = madeFresh (storeIn lent) size in
     let f : Follows first s calls = follows first s (made-ready lent size z) calls in
     let u′ : HeldUpTo n empty (answered s (map callOf calls)) = rw (f .requests) at u in
-    rw (f .ready .holds .store) (stays-packed (storeIn lent) size (map callOf calls) n (made lent size z .1) u′)
+    subst (λ (x : Store). slabInUse x ≤ 256 * n) (sym (f .ready .holds .store)) (stays-packed (storeIn lent) size (map callOf calls) n (made lent size z .1) u′)
 
 -- every element of a list made one by one
 all-tab : {A : Type 0} {P : A → Type 0} (n : ℕ) (f : ℕ → A) → ((i : ℕ) → i < n → P (f i)) → All P (tab n f)
