@@ -463,8 +463,8 @@ pub fn full_tables(host: &mut dyn Host, seed: u64, count: u64) {
 
 /// A hundred years are 5,218 weeks. Weekly changes of one group of settings over full tables: writes to
 /// some of the group's 128 pages and a mark; now and then a set-back, some of them undone weeks later;
-/// every month a reclaim that leaves a year, in some decades ten. In the last decades the record table
-/// gets full now and then. The lent areas are compared every `interval` weeks, answers and counts
+/// every month a reclaim that leaves a year, in some decades ten, and a few writes behind it. In the last
+/// decades the record table gets full now and then. The lent areas are compared every `interval` weeks, answers and counts
 /// after every call.
 pub fn hundred_years(host: &mut dyn Host, seed: u64, weeks: u64, interval: u64) {
     let draw = &mut Draw::new(seed);
@@ -519,6 +519,10 @@ pub fn hundred_years(host: &mut dyn Host, seed: u64, weeks: u64, interval: u64) 
             let years = if week / 522 % 3 == 1 { 10 } else { 1 };
             bytes.extend(reclaim(now.saturating_sub(65 * years).max(outlook.floor)));
             bytes.extend(read(128 * group, now));
+            // Some of the places that it freed are taken at once.
+            for _ in 0..draw.within(1, 12) {
+                bytes.extend(write(128 * group + draw.below(128), &draw.bytes(PAGE)));
+            }
         }
         let mut sealed = None;
         run.batch(&bytes, &[0x22; PAGE_ANSWER_BYTES * 60], |request, answer| {
