@@ -135,7 +135,7 @@ impl Draft {
         }
     }
 
-    /// Some requests more: pages written again, and what they stand for freed; a fill; a reclaim; or any.
+    /// Some requests more: pages written again, and the older ones freed; a fill; a reclaim; or any.
     fn round(&mut self, draw: &mut Draw) {
         let outlook = self.outlook();
         let mix = Mix { write: 50, mark: 15, revert: 10, read: 5, reclaim: 20 };

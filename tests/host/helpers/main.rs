@@ -1,5 +1,6 @@
 //! Writes requests and answers to standard output, each with its bytes, and place tables, for the test of
-//! include/kizmoolet_requests.h. Every number is eight bytes, least significant first; an area is its length and its bytes. Records:
+//! include/kizmoolet_requests.h. Every number is eight bytes, least significant first; an area is its length and its bytes.
+//! Records:
 //! K numbers                                   the reference's sizes
 //! Q operation address moment page bytes       a request as the reference reads these bytes; page empty if there is none
 //! A refusal number date page bytes            an answer and the bytes that the reference writes for it; date 0 and page

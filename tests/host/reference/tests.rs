@@ -397,7 +397,8 @@ fn places_and_refusals_of_writes() {
         let first: Vec<Vec<u8>> = (0..6).map(|address| write(address, b'A' + address as u8)).collect();
         placed(&mut store, &first);
         let list = [mark(), write(freed, b'g'), write(9, b'x'), reclaim(1), write(9, b'9'), write(10, b'x')];
-        let due: String = (0..6).map(|place| if place == freed { '9' } else { char::from(b'A' + place as u8) }).collect();
+        let letter = |place| if place == freed { '9' } else { char::from(b'A' + place as u8) };
+        let due: String = (0..6).map(letter).collect();
         assert_eq!(placed(&mut store, &list), (vec![0, 0, 6, 0, 0, 6], due + "g"));
     }
 }
