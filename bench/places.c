@@ -18,14 +18,6 @@ _Noreturn void fail(const char *what)
     exit(1);
 }
 
-static void *room(size_t bytes)
-{
-    void *p = calloc(bytes ? bytes : 1, 1);
-    if (!p)
-        fail("out of memory");
-    return p;
-}
-
 /* ---- stores */
 
 /* Pages of the volume and rows of the tables; the writes of a batch, how many places are in use where the search is long, and
