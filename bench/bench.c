@@ -27,14 +27,6 @@ _Noreturn void fail(const char *what)
     exit(1);
 }
 
-static void *room(size_t bytes)
-{
-    void *p = calloc(bytes ? bytes : 1, 1);
-    if (!p)
-        fail("out of memory");
-    return p;
-}
-
 /* ---- the library and the plain implementation, each on its own copy of the tables */
 
 typedef uint32_t batch_function(uint8_t *, size_t, uint8_t *, size_t, uint8_t *, size_t, uint8_t *, size_t, uint8_t *, size_t,

@@ -1,5 +1,6 @@
-/* (c) The same job in plain C, not verified: the same byte tables, the same checks and refusals, the same algorithms.
-   It works on the bytes in place. */
+/* (c) The same job in plain C, not verified: the same byte tables, the same checks and refusals, the same algorithms; it too
+   remembers within a batch below which place none is free. It works on the bytes in place, and renames the places of the rows
+   that moved one by one, where the library passes over the place table. */
 #include <string.h>
 #include "store.h"
 
@@ -115,7 +116,8 @@ static struct found lookup(const struct areas *s, uint32_t address, uint32_t mom
     return NOTHING;
 }
 
-static unsigned write_page(struct areas *s, uint32_t address, const uint8_t *page)
+/* A page at (address, now). No place below *from is free: a new record's place is looked for from there on. */
+static unsigned write_page(struct areas *s, size_t *from, uint32_t address, const uint8_t *page)
 {
     if (address >= head_size(s))
         return 4;
@@ -130,9 +132,10 @@ static unsigned write_page(struct areas *s, uint32_t address, const uint8_t *pag
     }
     if (n >= s->records_len / 12)
         return 5;
-    size_t place = 0, places = s->places_len / 4;
+    size_t place = *from, places = s->places_len / 4;
     while (place < places && get32(s->places + 4 * place) != 0)
         place++;
+    *from = place;
     if (place == places)
         return 6;
     memmove(s->records + 12 * (at + 1), s->records + 12 * at, 12 * (n - at));
@@ -233,7 +236,7 @@ uint32_t plain_batch(uint8_t *head, size_t head_len, uint8_t *branches, size_t b
     unsigned stop = check(&s, head_len);
     if (stop)
         return stop;
-    size_t at = 0, out = 0;
+    size_t at = 0, out = 0, from = 0; /* no place below `from` is free */
     while (at < batch_len) {
         struct request q;
         struct found found = NOTHING;
@@ -248,7 +251,7 @@ uint32_t plain_batch(uint8_t *head, size_t head_len, uint8_t *branches, size_t b
         }
         switch (q.operation) {
         case WRITE:
-            refusal = write_page(&s, q.address, batch + at + 7);
+            refusal = write_page(&s, &from, q.address, batch + at + 7);
             break;
         case MARK:
             if (now == OPEN_END)
@@ -272,6 +275,7 @@ uint32_t plain_batch(uint8_t *head, size_t head_len, uint8_t *branches, size_t b
             break;
         case RECLAIM:
             refusal = reclaim(&s, q.moment, &number);
+            from = 0;
             break;
         }
         if (found.page && answers_len - out < KIZMOOLET_PAGE_ANSWER_BYTES) {

@@ -19,14 +19,6 @@ _Noreturn void fail(const char *what)
     exit(1);
 }
 
-static void *room(size_t bytes)
-{
-    void *p = calloc(bytes ? bytes : 1, 1);
-    if (!p)
-        fail("out of memory");
-    return p;
-}
-
 /* ---- shapes */
 
 enum shape { DISTINCT, ONE, WEEKLY, SPREAD, ENDS, YOUNG, SHAPES };

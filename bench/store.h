@@ -4,6 +4,7 @@
 
 #include <stddef.h>
 #include <stdint.h>
+#include <stdlib.h>
 #include "kizmoolet.h"
 
 #define PAGE KIZMOOLET_PAGE_BYTES
@@ -116,5 +117,14 @@ void mark_records(struct marking *m, const uint32_t *addresses, const uint32_t *
 void mark_spans(const struct marking *m, const uint32_t *addresses, const uint32_t *moments, size_t count, uint8_t *kept);
 
 _Noreturn void fail(const char *what);
+
+/* Memory, all zero. */
+static inline void *room(size_t bytes)
+{
+    void *p = calloc(bytes ? bytes : 1, 1);
+    if (!p)
+        fail("out of memory");
+    return p;
+}
 
 #endif

@@ -19,7 +19,8 @@
  * 4. KIZMOOLET_STACK_BYTES of stack are free: the tables' numbers stand there during the call. The usual 8 MB of a main
  *    thread are enough; a thread with a small stack is not.
  * 5. Head, tables and slab belong to the caller, who keeps them between calls as the last call left them, and passes the same
- *    five areas, with the same lengths, to the next. A copy of the five areas is a copy of the store.
+ *    five areas, with the same lengths, to the next. A copy of the five areas is a copy of the store; of the slab it needs the
+ *    pages in use alone (below, PAGES PACKED TOWARDS THE FRONT).
  *
  * No other duty: wrong lengths and unsound contents are refused (1, 2, 3). A call that is refused so writes to no area; the three
  * counts of kizmoolet_batch are written, with zeros.
@@ -54,6 +55,19 @@
  *
  * The rows lent are the length of a table; the head's counts say how many of them are in use. A record is needed for each
  * page written at each moment, and a branch for each revert, until a reclaim frees them.
+ *
+ *
+ * PAGES PACKED TOWARDS THE FRONT
+ *
+ * A write that needs a place takes the free one with the smallest number, as the place table stands at that request: places
+ * that a reclaim freed earlier in the same batch are among the free ones. A write to an address that has a record at now
+ * overwrites the page in its own place. No page is ever moved. So the slab is used up to a certain byte, which
+ * kizmoolet_slab_in_use (kizmoolet_requests.h) tells from the place table, and which grows only while no place below it is
+ * free. In a store begun by kizmoolet_fresh it is never past 256 times the most records that were counted at once.
+ *
+ * Head, tables and the slab up to that byte are a whole copy of the store: whatever bytes lie behind it, every read answers the
+ * same. The areas of a copy may also be longer than those it was made from: with any bytes behind the branch and record rows,
+ * and zeros behind the place rows.
  *
  *
  * REQUESTS, one behind the other in a batch
@@ -92,10 +106,10 @@
 #include <stdint.h>
 
 /* The version of this header and of the archive beside it; CHANGELOG.md says what changed. */
-#define KIZMOOLET_VERSION "0.2.0"
+#define KIZMOOLET_VERSION "0.2.1"
 #define KIZMOOLET_VERSION_MAJOR 0
 #define KIZMOOLET_VERSION_MINOR 2
-#define KIZMOOLET_VERSION_PATCH 0
+#define KIZMOOLET_VERSION_PATCH 1
 
 #define KIZMOOLET_OK 0u
 

@@ -1,5 +1,6 @@
 /*
- * Requests packed and answers unpacked, for hosts of kizmoolet.h. All functions are inline: there is nothing to link.
+ * Requests packed and answers unpacked, and what head and place table tell, for hosts of kizmoolet.h. All functions are inline:
+ * there is nothing to link.
  *
  *     struct kizmoolet_requests requests = kizmoolet_requests_in(batch, sizeof batch);
  *     kizmoolet_add_write(&requests, 5, page);
@@ -59,6 +60,18 @@ static inline uint32_t kizmoolet_now(const uint8_t *head)
 static inline uint32_t kizmoolet_floor(const uint8_t *head)
 {
     return kizmoolet_number_at(head + KIZMOOLET_HEAD_FLOOR_AT);
+}
+
+/*
+ * Up to which byte the slab is in use: 256 times the number of the last place in use, plus 256; 0 where none is. A copy of the
+ * store needs no byte of the slab from there on. It looks at the place table from its end, and only at whole rows.
+ */
+static inline size_t kizmoolet_slab_in_use(const uint8_t *places, size_t places_len)
+{
+    size_t rows = places_len / KIZMOOLET_PLACE_BYTES;
+    while (rows > 0 && kizmoolet_number_at(places + (rows - 1) * KIZMOOLET_PLACE_BYTES) == 0)
+        rows--;
+    return rows * KIZMOOLET_PAGE_BYTES;
 }
 
 /* An empty list of requests, to be added in this area. */

@@ -2,7 +2,7 @@
    before its CUT_AT-th step that matters to the files, and does to the files what a cut may do. Steps are the calls
    below and the end of the program.
 
-   CUT_IMAGE is the image's path. CUT_KIND says what becomes of that which was not forced to the disk:
+   CUT_IMAGE is the path of the image that is replaced or made. CUT_KIND says what becomes of that which was not forced to the disk:
      kept    all of it is there
      lost    nothing of it is there: a file is empty, a rename did not happen
      mixed   a rename happened, and a file's second half is zeros */
@@ -19,7 +19,8 @@
 static long steps;
 static int unforced = -1; /* another descriptor of the file that was written and not forced */
 static int unforced_of = -1;
-static int renamed;
+static int renamed; /* over an older file */
+static int appeared; /* under a name that nothing had */
 
 static const char *before(void) {
     static char path[PATH_MAX];
@@ -37,6 +38,8 @@ static void cut(void) {
             ftruncate(unforced, file.st_size) != 0))
         abort();
     if (renamed && strcmp(kind, "lost") == 0 && rename(before(), getenv("CUT_IMAGE")) != 0)
+        abort();
+    if (appeared && strcmp(kind, "lost") == 0 && unlink(getenv("CUT_IMAGE")) != 0)
         abort();
     kill(getpid(), SIGKILL);
 }
@@ -63,7 +66,7 @@ int fsync(int file) {
     step();
     int result = real(file);
     if (result == 0 && fstat(file, &found) == 0 && S_ISDIR(found.st_mode))
-        renamed = 0;
+        renamed = appeared = 0;
     else if (result == 0 && file == unforced_of)
         unforced = unforced_of = -1;
     return result;
@@ -78,6 +81,15 @@ int renameat(int from_folder, const char *from, int to_folder, const char *to) {
         abort();
     renamed = 1;
     return real(from_folder, from, to_folder, to);
+}
+
+int renameat2(int from_folder, const char *from, int to_folder, const char *to, unsigned flags) {
+    int (*real)(int, const char *, int, const char *, unsigned) =
+        (int (*)(int, const char *, int, const char *, unsigned))dlsym(RTLD_NEXT, "renameat2");
+    step();
+    int result = real(from_folder, from, to_folder, to, flags);
+    appeared = result == 0;
+    return result;
 }
 
 int unlinkat(int folder, const char *name, int flags) {

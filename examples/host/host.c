@@ -5,6 +5,8 @@
                                                    number, go to standard output; the stop number and the counts go to
                                                    standard error
      host grow IMAGE BRANCHES RECORDS PLACES       the same store over larger tables
+     host copy IMAGE TO [BRANCHES RECORDS PLACES]  a copy of the store in the new file TO, without what lies in the slab
+                                                   behind the last page in use; with larger tables if they are given
 
    Options of run:
      --stop-at-refusal   the requests after the first refused one are not carried out, and not answered
@@ -13,7 +15,9 @@
 
    The image file: 24 bytes of header (the letters KZIMAGE1; branch rows, record rows and place rows, four bytes
    each; CRC-32 of all other bytes of the file, four bytes), then head, branch table, record table, place table and
-   page slab, just as the library takes them. All numbers are most significant byte first.
+   page slab, just as the library takes them. All numbers are most significant byte first. The slab may end behind any
+   whole page from the last one in use on: what the file leaves out is zero in memory. A copy leaves out all that it
+   can; an image that is replaced is written whole.
 
    The file is never changed in place. The new image is written beside it under another name and forced to the
    disk, then takes over the name by rename, and the folder is forced to the disk: a cut of power at any moment
@@ -23,11 +27,12 @@
    shows now, which tells the two apart where the batch marks or reverts.
 
    The other name is .IMAGE.kizmoolet-PROCESS. No image has such a name, since this program refuses it; a file of this
-   name that is there already is not overwritten. One that a run left which was cut off is removed by the next run
-   that changes the image: a plain file of the same owner, which no living host has locked.
+   name that is there already is not overwritten. One that a host left which was cut off is removed by the next one that
+   makes or changes the image: a plain file of the same owner, which no living host has locked.
 
-   Mode and owner stay. An image that may not be written is not replaced; it can be read. The image itself is locked,
-   so that hosts wait for each other at one image, and not at others of the folder.
+   Mode and owner stay; a copy has the mode of the image, and is owned by the caller. An image that may not be written is
+   not replaced; it can be read and copied. The image itself is locked, so that hosts wait for each other at one image,
+   and not at others of the folder.
 
    Exit status: 0 all requests were accepted, or the image was made; 5 all were answered, some refused; 3 the batch
    stopped with a number other than 0; 6 --all-or-nothing, something was refused or stopped, and the image is as it
@@ -49,6 +54,7 @@
 #include <unistd.h>
 
 #include "kizmoolet.h"
+#include "kizmoolet_requests.h"
 
 enum {
     HEADER = 24,
@@ -79,10 +85,10 @@ struct place {
     char aside[NAME_MAX + 1];
 };
 
-/* An image in memory: all its bytes, and where its parts stand. */
+/* An image in memory: all its bytes, how many of them a file has (without the end of the slab), where its parts stand. */
 struct image {
     uint8_t *bytes;
-    size_t length;
+    size_t length, in_file;
     uint8_t *head, *branches, *records, *places, *slab;
     size_t branches_len, records_len, places_len, slab_len;
 };
@@ -139,7 +145,7 @@ static uint32_t crc32_on(uint32_t before, const uint8_t *bytes, size_t length) {
 
 static uint32_t checksum(const struct image *image) {
     uint32_t crc = crc32_on(0, image->bytes, CHECKSUM_AT);
-    return crc32_on(crc, image->bytes + HEADER, image->length - HEADER);
+    return crc32_on(crc, image->bytes + HEADER, image->in_file - HEADER);
 }
 
 static size_t image_length(uint32_t branches, uint32_t records, uint32_t places) {
@@ -157,6 +163,11 @@ static void lay_out(struct image *image) {
     image->records = image->branches + image->branches_len;
     image->places = image->records + image->records_len;
     image->slab = image->places + image->places_len;
+}
+
+/* The bytes of the image up to the end of the last page in use. */
+static size_t length_in_use(const struct image *image) {
+    return (size_t)(image->slab - image->bytes) + kizmoolet_slab_in_use(image->places, image->places_len);
 }
 
 /* The length of the file name that an aside name is for: .NAME.kizmoolet-NUMBER. 0 where it is no aside name. */
@@ -265,21 +276,38 @@ static int write_all(int file, const uint8_t *bytes, size_t length) {
     return 0;
 }
 
+/* How long an image with this header is, of which a file has so many bytes; 0 where that is no image: a file has all
+   tables, and whole pages of the slab. */
+static size_t whole_length(const uint8_t *header, size_t in_file) {
+    size_t places = number_at(header + 16);
+    size_t whole = image_length(number_at(header + 8), number_at(header + 12), (uint32_t)places);
+    if (memcmp(header, magic, 8) != 0 || whole > image_length(BRANCHES_MOST, ROWS_MOST, ROWS_MOST) || in_file > whole ||
+        whole - in_file > PAGE * places || (whole - in_file) % PAGE != 0)
+        return 0;
+    return whole;
+}
+
+/* The image in a file. What the file leaves out of the slab is zero. */
 static struct image load(const struct place *place, int file, const struct stat *found) {
     struct image image;
     if (found->st_size < HEADER + HEAD || (uintmax_t)found->st_size > image_length(BRANCHES_MOST, ROWS_MOST, ROWS_MOST))
         fail(1, "%s is no image", place->name);
-    image.length = (size_t)found->st_size;
-    image.bytes = room(image.length + 1);
-    if (read_up_to(file, image.bytes, image.length) != image.length)
+    image.in_file = (size_t)found->st_size;
+    image.bytes = room(image.in_file + 1);
+    if (read_up_to(file, image.bytes, image.in_file) != image.in_file)
         fail(1, "%s changed its length while it was read", place->name);
-    const uint8_t *rows = image.bytes + 8;
-    if (memcmp(image.bytes, magic, 8) != 0 ||
-        image_length(number_at(rows), number_at(rows + 4), number_at(rows + 8)) != image.length)
+    image.length = whole_length(image.bytes, image.in_file);
+    if (image.length == 0)
         fail(1, "%s is no image, or not as long as its header says", place->name);
     if (number_at(image.bytes + CHECKSUM_AT) != checksum(&image))
         fail(1, "%s is damaged: its checksum is not that of its bytes", place->name);
+    image.bytes = realloc(image.bytes, image.length);
+    if (!image.bytes)
+        fail(1, "no memory for %zu bytes", image.length);
+    memset(image.bytes + image.in_file, 0, image.length - image.in_file);
     lay_out(&image);
+    if (image.in_file < length_in_use(&image))
+        fail(1, "%s is no image: it ends before its last page in use", place->name);
     return image;
 }
 
@@ -301,7 +329,7 @@ static void write_new(const struct place *place, const char *name, const struct 
     if (file < 0)
         fail(1, "%s: %s", name, strerror(errno));
     flock(file, LOCK_EX | LOCK_NB);
-    if (write_all(file, image->bytes, image->length) != 0 || fstat(file, &made) != 0 ||
+    if (write_all(file, image->bytes, image->in_file) != 0 || fstat(file, &made) != 0 ||
         ((made.st_uid != like->st_uid || made.st_gid != like->st_gid) && fchown(file, like->st_uid, like->st_gid) != 0) ||
         fchmod(file, like->st_mode & 07777) != 0 || fsync(file) != 0) {
         int why = errno;
@@ -319,6 +347,7 @@ static void force_folder(const struct place *place) {
 
 /* The new image beside the old one, forced to the disk; then the name; then the folder, forced to the disk. */
 static void replace(const struct place *place, struct image *image, const struct stat *like) {
+    image->in_file = image->length;
     put_number(image->bytes + CHECKSUM_AT, checksum(image));
     clear_up(place);
     write_new(place, place->aside, image, like);
@@ -333,6 +362,7 @@ static void replace(const struct place *place, struct image *image, const struct
 /* A new image under a name that nothing has. */
 static void put_new(const struct place *place, struct image *image, const struct stat *like) {
     put_number(image->bytes + CHECKSUM_AT, checksum(image));
+    clear_up(place);
     write_new(place, place->aside, image, like);
     int status = renameat2(place->folder, place->aside, place->folder, place->name, RENAME_NOREPLACE);
     if (status != 0 && (errno == EINVAL || errno == ENOSYS)) { /* a file system that cannot: by another name */
@@ -359,7 +389,7 @@ static uint32_t number_in(const char *word, const char *what, uint32_t most) {
 
 static struct image empty_image(uint32_t branches, uint32_t records, uint32_t places) {
     struct image image;
-    image.length = image_length(branches, records, places);
+    image.length = image.in_file = image_length(branches, records, places);
     image.bytes = room(image.length);
     memset(image.bytes, 0, image.length);
     memcpy(image.bytes, magic, 8);
@@ -370,28 +400,34 @@ static struct image empty_image(uint32_t branches, uint32_t records, uint32_t pl
     return image;
 }
 
+/* Nothing may have the name of a new image. Its mode, and its owner, who is the caller. */
+static struct stat of_caller(const struct place *place, const char *path, mode_t mode) {
+    struct stat like;
+    if (fstatat(place->folder, place->name, &like, AT_SYMLINK_NOFOLLOW) == 0)
+        fail(1, "%s is there already", path);
+    if (fstat(place->folder, &like) != 0)
+        fail(1, "%s: %s", path, strerror(errno));
+    like.st_uid = geteuid();
+    if (!(like.st_mode & S_ISGID)) /* else the folder's group is the file's too */
+        like.st_gid = getegid();
+    like.st_mode = mode;
+    return like;
+}
+
 static int make(const char *path, char **sizes) {
     uint32_t size = number_in(sizes[0], "the volume's size", ROWS_MOST);
     uint32_t branches = number_in(sizes[1], "the number of branch rows", BRANCHES_MOST);
     uint32_t records = number_in(sizes[2], "the number of record rows", ROWS_MOST);
     uint32_t places = number_in(sizes[3], "the number of places", ROWS_MOST);
+    mode_t mask = umask(0);
+    umask(mask);
     struct place place = find_place(path);
-    struct stat like;
-    if (fstatat(place.folder, place.name, &like, AT_SYMLINK_NOFOLLOW) == 0)
-        fail(1, "%s is there already", path);
+    struct stat like = of_caller(&place, path, 0666 & ~mask);
     struct image image = empty_image(branches, records, places);
     uint32_t refusal = kizmoolet_fresh(size, image.head, HEAD, image.branches, image.branches_len, image.records,
         image.records_len, image.places, image.places_len, image.slab, image.slab_len);
     if (refusal)
         fail(1, "refusal %lu: size, branches, records and places must each be at least 1", (unsigned long)refusal);
-    mode_t mask = umask(0);
-    umask(mask);
-    if (fstat(place.folder, &like) != 0)
-        fail(1, "%s: %s", path, strerror(errno));
-    like.st_uid = geteuid();
-    if (!(like.st_mode & S_ISGID)) /* else the folder's group is the file's too */
-        like.st_gid = getegid();
-    like.st_mode = 0666 & ~mask;
     put_new(&place, &image, &like);
     return 0;
 }
@@ -508,41 +544,73 @@ static int run(const char *path, const char *limit, const struct options *option
     return undone ? 6 : done.stop ? 3 : refused ? 5 : 0;
 }
 
-/* The same head, rows and pages, with zero rows and free places behind them. */
-static int grow(const char *path, char **sizes) {
-    static const char *const what[3] = {"branch rows", "record rows", "places"};
+static const char *const table_rows[3] = {"branch rows", "record rows", "places"};
+
+/* The numbers of rows that are asked for. */
+static void rows_in(char **sizes, uint32_t *rows) {
     static const uint32_t most[3] = {BRANCHES_MOST, ROWS_MOST, ROWS_MOST};
+    for (int at = 0; at < 3; at++)
+        rows[at] = number_in(sizes[at], table_rows[at], most[at]);
+}
+
+/* The same head, rows and pages, with zero rows and free places behind them; as many rows as before where none are asked
+   for. The library looks at the tables, before and after. */
+static struct image enlarged(const char *path, struct image *image, const uint32_t *asked) {
     uint32_t rows[3];
-    for (int at = 0; at < 3; at++)
-        rows[at] = number_in(sizes[at], what[at], most[at]);
-    struct place place = find_place(path);
-    struct stat found;
-    int file = open_locked(&place, &found);
-    struct image image = load(&place, file, &found);
-    for (int at = 0; at < 3; at++)
-        if (rows[at] < number_at(image.bytes + 8 + 4 * at))
-            fail(1, "%s has %lu %s, and gets no fewer", path,
-                (unsigned long)number_at(image.bytes + 8 + 4 * at), what[at]);
+    for (int at = 0; at < 3; at++) {
+        uint32_t were = number_at(image->bytes + 8 + 4 * at);
+        rows[at] = asked ? asked[at] : were;
+        if (rows[at] < were)
+            fail(1, "%s has %lu %s, and gets no fewer", path, (unsigned long)were, table_rows[at]);
+    }
+    uint32_t stop = call(image, NULL, 0, NULL, 0).stop;
     struct image larger = empty_image(rows[0], rows[1], rows[2]);
-    memcpy(larger.head, image.head, HEAD);
-    memcpy(larger.branches, image.branches, image.branches_len);
-    memcpy(larger.records, image.records, image.records_len);
-    memcpy(larger.places, image.places, image.places_len);
-    memcpy(larger.slab, image.slab, image.slab_len);
-    uint32_t stop = call(&image, NULL, 0, NULL, 0).stop; /* the library looks at the tables, before and after */
+    memcpy(larger.head, image->head, HEAD);
+    memcpy(larger.branches, image->branches, image->branches_len);
+    memcpy(larger.records, image->records, image->records_len);
+    memcpy(larger.places, image->places, image->places_len);
+    memcpy(larger.slab, image->slab, image->slab_len);
     if (!stop)
         stop = call(&larger, NULL, 0, NULL, 0).stop;
     if (stop)
         fail(1, "stop %lu: the tables are not sound, and stay as they are", (unsigned long)stop);
+    return larger;
+}
+
+static int grow(const char *path, char **sizes) {
+    uint32_t rows[3];
+    rows_in(sizes, rows);
+    struct place place = find_place(path);
+    struct stat found;
+    int file = open_locked(&place, &found);
+    struct image image = load(&place, file, &found), larger = enlarged(path, &image, rows);
     must_be_writable(&place, &found);
     replace(&place, &larger, &found);
+    return 0;
+}
+
+/* The file TO has all but what lies in the slab behind the last page in use. */
+static int copy(const char *path, const char *to, char **sizes) {
+    uint32_t rows[3];
+    if (sizes)
+        rows_in(sizes, rows);
+    struct place place = find_place(path), new_place = find_place(to);
+    struct stat found;
+    int file = open_locked(&place, &found);
+    struct stat like = of_caller(&new_place, to, found.st_mode & 0777);
+    struct image image = load(&place, file, &found), copied = enlarged(path, &image, sizes ? rows : NULL);
+    copied.in_file = length_in_use(&copied);
+    put_new(&new_place, &copied, &like);
+    fprintf(stderr, "copied: %zu bytes, the slab up to byte %zu of %zu\n", copied.in_file,
+        kizmoolet_slab_in_use(copied.places, copied.places_len), copied.slab_len);
     return 0;
 }
 
 static int usage(void) {
     fputs("usage: host new IMAGE SIZE BRANCHES RECORDS PLACES\n"
           "       host run [--stop-at-refusal | --all-or-nothing] [--copy NAME] IMAGE [ANSWER_BYTES] < batch > answers\n"
-          "       host grow IMAGE BRANCHES RECORDS PLACES\n",
+          "       host grow IMAGE BRANCHES RECORDS PLACES\n"
+          "       host copy IMAGE TO [BRANCHES RECORDS PLACES]\n",
         stderr);
     return 2;
 }
@@ -556,6 +624,8 @@ int main(int count, char **words) {
         return make(words[2], words + 3);
     if (count == 6 && strcmp(words[1], "grow") == 0)
         return grow(words[2], words + 3);
+    if ((count == 4 || count == 7) && strcmp(words[1], "copy") == 0)
+        return copy(words[2], words[3], count == 7 ? words + 4 : NULL);
     if (count < 3 || strcmp(words[1], "run") != 0)
         return usage();
     struct options options = {0, 0, NULL};

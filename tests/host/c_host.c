@@ -130,6 +130,22 @@ static void get_area(struct area *area)
     get(area->bytes, area->length);
 }
 
+/* A copy of the lent areas, laid onto bytes that are read: head and tables whole, of the slab what is in use. */
+static void copy_areas(void)
+{
+    size_t in_use = kizmoolet_slab_in_use(areas[PLACES].bytes, areas[PLACES].length);
+    for (int i = HEAD; i <= SLAB; i++) {
+        size_t length = i == SLAB ? in_use : areas[i].length;
+        if (length != 0)
+            memcpy(expected, areas[i].bytes, length);
+        get_area(&areas[i]);
+        if (length > areas[i].length)
+            fail("a copy has no room");
+        if (length != 0)
+            memcpy(areas[i].bytes, expected, length);
+    }
+}
+
 static void check_margins(void)
 {
     if (exact)
@@ -339,6 +355,16 @@ static void end_family(void)
     memset(&counts, 0, sizeof counts);
 }
 
+static void get_note(void)
+{
+    char line[256] = { 0 };
+    uint64_t length = get_number();
+    if (length >= sizeof line)
+        fail("a line is too long");
+    get(line, length);
+    printf("    %s\n", line);
+}
+
 static void *work(void *result)
 {
     bool *good = result;
@@ -356,6 +382,8 @@ static void *work(void *result)
         if (tag == 'L') {
             for (int i = HEAD; i <= SLAB; i++)
                 get_area(&areas[i]);
+        } else if (tag == 'Y') {
+            copy_areas();
         } else if (tag == 'F') {
             run_fresh();
         } else if (tag == 'B') {
@@ -366,6 +394,8 @@ static void *work(void *result)
                 compare_area(&areas[i], area_names[i]);
         } else if (tag == 'E') {
             end_family();
+        } else if (tag == 'N') {
+            get_note();
         } else if (tag == 'Z') {
             all_differ += get_number();
             break;

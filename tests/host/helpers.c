@@ -2,7 +2,8 @@
    as C++11.
 
    1. Every request and answer that helpers/main.rs writes, packed and unpacked: the bytes are those of the reference; into an
-      area that is too short nothing is packed, and answers that are cut short anywhere are not unpacked.
+      area that is too short nothing is packed, and answers that are cut short anywhere are not unpacked. For every place table
+      that it writes, up to which byte the slab is in use; only whole rows are looked at.
    2. Each of the numbers 0 to 14, by its name, comes from the library where the header says, and so does a page's date. */
 
 #include "kizmoolet.h"
@@ -21,8 +22,10 @@ static unsigned long checks, wrong;
 static void check(int good, const char *what, int line)
 {
     checks++;
-    if (!good && ++wrong <= 20)
+    if (!good && ++wrong <= 20) {
         printf("  line %d: not so: %s\n", line, what);
+        fflush(stdout); /* what is wrong may end the program soon after */
+    }
 }
 
 static void fail(const char *what)
@@ -187,6 +190,25 @@ static void one_answer(void)
     }
 }
 
+static uint8_t place_bytes[KIZMOOLET_PLACE_BYTES * KIZMOOLET_MOST_PLACES + 3];
+
+static void one_place_table(void)
+{
+    size_t length = get_area(place_bytes, sizeof place_bytes), whole = length / KIZMOOLET_PLACE_BYTES * KIZMOOLET_PLACE_BYTES;
+    uint64_t in_use = get_number();
+    uint8_t *part = NULL;
+    CHECK(kizmoolet_slab_in_use(place_bytes, length) == in_use);
+    /* An allocation of the whole rows alone, so that the sanitizers see what is read past them; none where there is no byte. */
+    if (length != 0) {
+        part = (uint8_t *)malloc(whole != 0 ? whole : 1);
+        if (part == NULL)
+            fail("no memory");
+        memcpy(part, place_bytes, whole);
+    }
+    CHECK(kizmoolet_slab_in_use(part, length) == in_use);
+    free(part);
+}
+
 static void reference_sizes(void)
 {
     CHECK(get_number() == KIZMOOLET_PAGE_BYTES);
@@ -206,7 +228,7 @@ static void reference_sizes(void)
 
 static void against_reference(void)
 {
-    unsigned long requests = 0, answers = 0;
+    unsigned long requests = 0, answers = 0, place_tables = 0;
     struct kizmoolet_answers from;
     struct kizmoolet_answer answer;
     all_packed = kizmoolet_requests_in(packed_requests, sizeof packed_requests);
@@ -221,6 +243,9 @@ static void against_reference(void)
         } else if (tag == 'A') {
             one_answer();
             answers++;
+        } else if (tag == 'S') {
+            one_place_table();
+            place_tables++;
         } else if (tag == 'Z') {
             break;
         } else {
@@ -233,8 +258,8 @@ static void against_reference(void)
     while (kizmoolet_next_answer(&from, &answer) == 1)
         answers_seen--;
     CHECK(answers_seen == 0 && from.at == all_answers_len);
-    CHECK(requests > 10000 && answers > 4000);
-    printf("  %lu requests, %lu answers\n", requests, answers);
+    CHECK(requests > 10000 && answers > 4000 && place_tables > 20000);
+    printf("  %lu requests, %lu answers, %lu place tables\n", requests, answers, place_tables);
 }
 
 /* ---- 2. each number by its name */

@@ -9,6 +9,7 @@ ghost use Rattle.model.specs.Batch.{batch};
 ghost use Rattle.model.specs.ByNumber.{Sound, Whole};
 ghost use Rattle.rows.specs.View.{tables, storeOf, Carried};
 ghost use Rattle.wire.specs.Requests.{requestOf};
+ghost use Rattle.writing.specs.Free.{NoneBelow};
 ghost use Rattle.batch.specs.Batch.{batchOf, stopOf, BatchLeaves};
 
 // What a batch reports: the head, the stop number, the requests answered, their bytes, and the bytes of their answers.
@@ -20,7 +21,8 @@ pub struct Done {
     pub sent: usize,
 }
 
-// One request carried out; part is the input from it on, in which a write's page stands.
+// One request carried out; part is the input from it on, in which a write's page stands. No place below low is free, before and after:
+// a write looks for one from there on, and a reclaim, which may free any, sets it back.
 pub fn serve(
     head: Head,
     bt: &mut [u32],
@@ -29,16 +31,22 @@ pub fn serve(
     slab: &mut [u8],
     part: &[u8],
     q: Request,
+    low: &mut usize,
 ) -> Outcome
     requires { ⌜ Sound (storeOf head (tables (now bt) (now rt) (now pt) (now slab))) × Whole (requestOf (now part) q) ⌝ }
+    requires { ⌜ NoneBelow (now low) (now pt) ⌝ }
     ensures { λ r. ⌜ Carried head (tables (now (bt .entry)) (now (rt .entry)) (now (pt .entry)) (now (slab .entry))) (requestOf (now (part .entry)) q) r (tables (now (bt .exit)) (now (rt .exit)) (now (pt .exit)) (now (slab .exit))) ⌝ }
+    ensures { λ _. ⌜ NoneBelow (now (low .exit)) (now (pt .exit)) ⌝ }
 {
     match q {
-        Request::Write(a) => writing::write(head, rt, pt, slab, a, &part[7..263]),
+        Request::Write(a) => writing::write(head, rt, pt, slab, a, &part[7..263], low),
         Request::Mark => store::mark(head),
         Request::Revert(m) => store::revert(head, bt, m),
         Request::ReadAt(a, m) => store::read(head, bt, rt, a, m),
-        Request::Reclaim(m) => reclaim::reclaim(head, bt, rt, pt, m),
+        Request::Reclaim(m) => {
+            *low = 0;
+            reclaim::reclaim(head, bt, rt, pt, m)
+        }
     }
 }
 
@@ -70,6 +78,7 @@ pub fn run(
     let mut answered: usize = 0;
     let mut at: usize = 0;
     let mut out: usize = 0;
+    let mut low: usize = 0;
     loop {
         let part = &input[at..];
         let p = wire::read_request(part);
@@ -80,7 +89,7 @@ pub fn run(
         if answers.len() - out < 5 {
             return report(head, 14, answered, at, out);
         }
-        let r = serve(head, bt, rt, pt, slab, part, q);
+        let r = serve(head, bt, rt, pt, slab, part, q, &mut low);
         head = r.head;
         let size = wire::answer_size(r);
         if answers.len() - out < size {

@@ -29,14 +29,14 @@ use Rattle.kizmoolet.proofs.Batch.{bytes-served}
 use Rattle.kizmoolet.proofs.Holding.{Holds, stored-holds}
 
 -- the model's call
-abbrev callOf : AreaCall → Call
+abbrev pub callOf : AreaCall → Call
 callOf c = record { input = c .input; space = length (c .area) }
 
 -- areas that hold a sound store of numbers of 32 bits
-record Ready (l : Lent) (s : Store) : Type 0 where
-  holds : Holds l s
-  sound : Sound s
-  narrow : Narrow s
+pub record Ready (l : Lent) (s : Store) : Type 0 where
+  pub holds : Holds l s
+  pub sound : Sound s
+  pub narrow : Narrow s
 
 passes : (l : Lent) (s : Store) → Ready l s → checkIn l ≡ 0
 unfolding checkIn
@@ -56,11 +56,11 @@ ready-after l s r c =
     (record { holds = stored-holds l (r .holds .fit) s′ k′ n; sound = k .1; narrow = n })
 
 -- the areas and the requests of a list are those of the model
-record Follows (l : Lent) (s : Store) (cs : List AreaCall) : Type 0 where
-  ready : Ready (areasAfter l cs) (after s (map callOf cs))
-  requests : answeredIn l cs ≡ answered s (map callOf cs)
+pub record Follows (l : Lent) (s : Store) (cs : List AreaCall) : Type 0 where
+  pub ready : Ready (areasAfter l cs) (after s (map callOf cs))
+  pub requests : answeredIn l cs ≡ answered s (map callOf cs)
 
-follows : (l : Lent) (s : Store) → Ready l s → (cs : List AreaCall) → Follows l s cs
+pub follows : (l : Lent) (s : Store) → Ready l s → (cs : List AreaCall) → Follows l s cs
 unfolding areasAfter answeredIn after answered
 follows l s r [] = record { ready = r; requests = refl }
 follows l s r (c ∷ cs) =
@@ -82,12 +82,12 @@ sent l s r c =
       answers = ap (λ (x : BatchLeft). x .answers) e ∙ ap (λ (x : List ℕ). inFrontOf x (c .area)) o;
     }
 
-all-sent : (l : Lent) (s : Store) → Ready l s → (cs : List AreaCall) → AllSent l cs
+pub all-sent : (l : Lent) (s : Store) → Ready l s → (cs : List AreaCall) → AllSent l cs
 all-sent l s r [] = tt
 all-sent l s r (c ∷ cs) = (sent l s r c, all-sent (left l c .areas) _ (ready-after l s r c) cs)
 
 -- a call with just a read
-reads : (size : ℕ) (l : Lent) (s : Store) (p : Reference) (es : List Answered) → Ready l s → Agrees size s p es → (a t : ℕ) (area : List ℕ) → a < size → Readable p t
+pub reads : (size : ℕ) (l : Lent) (s : Store) (p : Reference) (es : List Answered) → Ready l s → Agrees size s p es → (a t : ℕ) (area : List ℕ) → a < size → Readable p t
     → length (answerBytes (readAnswer t (p .snapshot t a))) ≤ length area
     → batchBytes l (requestBytes (readAt a t)) area
     ≡ batchLeft 0 1 7 (length (answerBytes (readAnswer t (p .snapshot t a)))) l (inFrontOf (answerBytes (readAnswer t (p .snapshot t a))) area)
@@ -95,14 +95,14 @@ reads size l s p es r g a t area i v h =
     served l s r (requestBytes (readAt a t)) area ∙ rw (g .sent a t (length area) i v h, r .holds .areas, append-nil (answerBytes (readAnswer t (p .snapshot t a))))
 
 -- a fresh store in the areas
-made : (lent : Lent) (size : ℕ) → freshBytes size lent .result ≡ 0 → (fits lent ≡ true) × (freshCheck (storeIn lent) size ≡ 0) × (freshBytes size lent .areas ≡ withStore lent (madeFresh (storeIn lent) size))
+pub made : (lent : Lent) (size : ℕ) → freshBytes size lent .result ≡ 0 → (fits lent ≡ true) × (freshCheck (storeIn lent) size ≡ 0) × (freshBytes size lent .areas ≡ withStore lent (madeFresh (storeIn lent) size))
 unfolding freshBytes
 made lent size z =
     case (fits lent && eqb (freshCheck (storeIn lent) size) 0)
     (λ e. let b : (fits lent ≡ true) × (eqb (freshCheck (storeIn lent) size) 0 ≡ true) = and→ (fits lent) _ e in (b .0, eqb-true _ 0 (b .1), rw e))
     (λ e. let o : 1 ≡ 0 = rw e at z in absurd (omega arith))
 
-made-ready : (lent : Lent) (size : ℕ) → freshBytes size lent .result ≡ 0 → Ready (freshBytes size lent .areas) (madeFresh (storeIn lent) size)
+pub made-ready : (lent : Lent) (size : ℕ) → freshBytes size lent .result ≡ 0 → Ready (freshBytes size lent .areas) (madeFresh (storeIn lent) size)
 made-ready lent size z =
     let m : (fits lent ≡ true) × (freshCheck (storeIn lent) size ≡ 0) × (freshBytes size lent .areas ≡ withStore lent (madeFresh (storeIn lent) size)) = made lent size z in
     let n : Narrow (madeFresh (storeIn lent) size) = made-narrow (storeIn lent) size (m .1) in

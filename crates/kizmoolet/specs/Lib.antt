@@ -2,3 +2,4 @@ pub mod Lent
 pub mod Fresh
 pub mod Batch
 pub mod Demand3
+pub mod Packed

@@ -10,10 +10,11 @@ use Rattle.model.specs.Store.{Store, records}
 use Rattle.model.specs.Soundness.{tableCheck}
 use Rattle.model.specs.Wire.{Request, readAt, one, parse, requestBytes, answerBytes}
 use Rattle.model.specs.Step.{step}
-use Rattle.model.specs.Fresh.{madeFresh}
+use Rattle.model.specs.Fresh.{freshCheck, madeFresh}
 use Rattle.model.specs.Batch.{Answered, Run, ended, andThen, run, batch}
 use Rattle.model.specs.Reference.{Reference, empty}
 use Rattle.model.specs.Demand3.{Call, after, answered, next, fed, Readable, readAnswer, AllRight, acceptedReclaim, lastReclaims, Exact, Agrees, Demand3}
+use Rattle.model.specs.Packed.{reach, HeldUpTo}
 use Rattle.model.proofs.Base.{case}
 use Rattle.model.proofs.Invariant.{sound-check, →ascending, Inv}
 use Rattle.model.specs.ByNumber.{Sizes, Whole}
@@ -23,17 +24,19 @@ use Rattle.model.proofs.Steps.{step-inv}
 use Rattle.model.proofs.Parsing.{Reads, parse-reads, caseParsed}
 use Rattle.model.proofs.Running.{run-end, run-stop, run-full, run-one, run-stops, batch-run, batch-single, seven}
 use Rattle.model.proofs.Freshness.{made-inv, made-size}
+use Rattle.model.proofs.Packed.{step-reach}
 
 -- from a store and a reference to the store after a log
-record Ran (s : Store) (p : Reference) (s′ : Store) (es : List Answered) : Type 0 where
-  inv : Inv s′ (fed p es)
-  right : AllRight (s .head .size) p es
-  size : s′ .head .size ≡ s .head .size
-  exact : (b : Bool) → (b ≡ true → Exact s p) → lastReclaims b es ≡ true → Exact s′ (fed p es)
+pub record Ran (s : Store) (p : Reference) (s′ : Store) (es : List Answered) : Type 0 where
+  pub inv : Inv s′ (fed p es)
+  pub right : AllRight (s .head .size) p es
+  pub size : s′ .head .size ≡ s .head .size
+  pub exact : (b : Bool) → (b ≡ true → Exact s p) → lastReclaims b es ≡ true → Exact s′ (fed p es)
+  pub packed : (n : ℕ) → reach (s .placeRows) ≤ n → HeldUpTo n p es → reach (s′ .placeRows) ≤ n
 
 ran-none : (s : Store) (p : Reference) → Inv s p → Ran s p s []
 unfolding fed lastReclaims
-ran-none s p v = record { inv = v; right = tt; size = refl; exact = λ b x. x }
+ran-none s p v = record { inv = v; right = tt; size = refl; exact = λ b x. x; packed = λ n l h. l }
 
 fed-append : (p : Reference) (es fs : List Answered) → fed p (es ++ fs) ≡ fed (fed p es) fs
 unfolding fed
@@ -50,7 +53,17 @@ unfolding lastReclaims
 lastReclaims-append b [] fs = refl
 lastReclaims-append b (e ∷ es) fs = lastReclaims-append (acceptedReclaim (e .request) (e .answer)) es fs
 
-ran-append : (s : Store) (p : Reference) (s′ : Store) (es : List Answered) (s″ : Store) (fs : List Answered) → Ran s p s′ es → Ran s′ (fed p es) s″ fs
+held-front : (n : ℕ) (p : Reference) (es fs : List Answered) → HeldUpTo n p (es ++ fs) → HeldUpTo n p es
+held-front n p [] [] h = h
+held-front n p [] (f ∷ fs) h = h .0
+held-front n p (e ∷ es) fs h = (h .0, held-front n (next p e) es fs (h .1))
+
+held-behind : (n : ℕ) (p : Reference) (es fs : List Answered) → HeldUpTo n p (es ++ fs) → HeldUpTo n (fed p es) fs
+unfolding fed
+held-behind n p [] fs h = h
+held-behind n p (e ∷ es) fs h = held-behind n (next p e) es fs (h .1)
+
+pub ran-append : (s : Store) (p : Reference) (s′ : Store) (es : List Answered) (s″ : Store) (fs : List Answered) → Ran s p s′ es → Ran s′ (fed p es) s″ fs
     → Ran s p s″ (es ++ fs)
 ran-append s p s′ es s″ fs x y =
     record {
@@ -60,13 +73,14 @@ ran-append s p s′ es s″ fs x y =
       exact =
           λ b f e.
           rw (fed-append p es fs) (y .exact (lastReclaims b es) (x .exact b f) (rw (lastReclaims-append b es fs) at e));
+      packed = λ n l h. y .packed n (x .packed n l (held-front n p es fs h)) (held-behind n p es fs h);
     }
 
 ran-one : (s : Store) (p : Reference) (q : Request) → Inv s p → Whole q → Ran s p (step s q .store) (record { request = q; answer = step s q .answer } ∷ [])
 unfolding fed lastReclaims
 ran-one s p q v w =
     let t : Stepping s p q (step s q) = step-inv s p q v w in
-    record { inv = t .inv; right = (t .right, tt); size = t .size; exact = λ b f. t .exact }
+    record { inv = t .inv; right = (t .right, tt); size = t .size; exact = λ b f. t .exact; packed = λ n l h. step-reach n s p q v w l (h .1) }
 
 abbrev RanRun : Store → Reference → Run → Type 0
 RanRun s p r = Ran s p (r .store) (r .log)
@@ -101,7 +115,7 @@ ran-batch : (s : Store) (p : Reference) (input : List ℕ) (space : ℕ) → Inv
 unfolding batch
 ran-batch s p input space v = rw (sound-check s (v .sound)) (ran-run (suc (length input)) s p input space v)
 
-ran-calls : (s : Store) (p : Reference) (cs : List Call) → Inv s p → Ran s p (after s cs) (answered s cs)
+pub ran-calls : (s : Store) (p : Reference) (cs : List Call) → Inv s p → Ran s p (after s cs) (answered s cs)
 unfolding after answered
 ran-calls s p [] v = ran-none s p v
 ran-calls s p (c ∷ cs) v =
@@ -141,9 +155,13 @@ module _ (size : ℕ) (s : Store) (p : Reference) (v : Inv s p) (same : s .head 
         served = λ input space. rw (batch-run s input space k) (run-stops (suc (length input)) s input space);
       }
 
+-- what a log led to from a fresh store agrees with the reference
+pub ran-agrees : (lent : Store) (size : ℕ) (s : Store) (es : List Answered) → freshCheck lent size ≡ 0 → Ran (madeFresh lent size) empty s es → Agrees size s (fed empty es) es
+ran-agrees lent size s es h x =
+    agree size s (fed empty es) (x .inv) (x .size ∙ made-size lent size h) es
+    (subst (λ (n : ℕ). AllRight n empty es) (made-size lent size h) (x .right)) (x .exact false (λ e. absurd (false≢true e)))
+
 pub demand3 : Demand3
 demand3 lent size calls h =
     let s : Store = madeFresh lent size in
-    let x : Ran s empty (after s calls) (answered s calls) = ran-calls s empty calls (made-inv lent size h) in
-    agree size (after s calls) (fed empty (answered s calls)) (x .inv) (x .size ∙ made-size lent size h) (answered s calls)
-    (subst (λ (n : ℕ). AllRight n empty (answered s calls)) (made-size lent size h) (x .right)) (x .exact false (λ e. absurd (false≢true e)))
+    ran-agrees lent size (after s calls) (answered s calls) h (ran-calls s empty calls (made-inv lent size h))

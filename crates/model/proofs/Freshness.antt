@@ -23,7 +23,7 @@ unfolding newest branches fresh
 fresh-newest size zero nr np slab h = absurd (omega arith)
 fresh-newest size (suc nb) nr np slab h = refl
 
-used-none : (n : ℕ) → used (replicate n 0) ≡ 0
+pub used-none : (n : ℕ) → used (replicate n 0) ≡ 0
 unfolding used keep
 used-none zero = refl
 used-none (suc n) = used-none n

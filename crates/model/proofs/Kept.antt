@@ -174,7 +174,7 @@ written-kept s a page h w ad =
     (λ f. rw f (kept-none s))
     (λ p f.
     let q : Record = record { address = a; moment = s .head .now; place = p } in
-    rw f (inserted-kept s q page (before q (records s)) h w ad refl (ltb-true _ _ c) (firstFree→ (s .placeRows) p f .0) (before-le q (records s))))))
+    rw f (inserted-kept s q page (before q (records s)) h w ad refl (ltb-true _ _ c) (firstFree→ (s .placeRows) p f .inside) (before-le q (records s))))))
     (λ c. rw c (kept-none s))))
     (λ q e.
     let m : q ∈ records s = latest→ (records s) a (s .head .now) (s .head .now) q e .0 in

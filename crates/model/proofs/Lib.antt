@@ -21,5 +21,7 @@ pub mod Running
 pub mod Kept
 pub mod Orders
 pub mod Freshness
+pub mod Packed
 pub mod Demand3
+pub mod Copies
 pub mod Putting

@@ -17,6 +17,10 @@ front xs ys q h =
     let l : 256 ≤ length (drop (256 * q) xs) = simp length-drop (omega arith) in
     rw (drop-append-le (256 * q) xs ys (omega arith), take-append-le 256 (drop (256 * q) xs) ys l)
 
+-- a page that lies in the first n bytes
+pub page-front : (slab : List ℕ) (n q : ℕ) → 256 * q + 256 ≤ length (take n slab) → pageAt (take n slab) q ≡ pageAt slab q
+page-front slab n q h = sym (front (take n slab) (drop n slab) q h) ∙ ap (λ (x : List ℕ). pageAt x q) (take-append-drop n slab)
+
 module _ (slab : List ℕ) (p : ℕ) (page : List ℕ) (whole : length page ≡ 256) (inside : 256 * p + 256 ≤ length slab) where
   pub length-withPage : length (withPage slab p page) ≡ length slab
   unfolding withPage
@@ -52,9 +56,7 @@ module _ (slab : List ℕ) (p : ℕ) (page : List ℕ) (whole : length page ≡ 
       (λ e.
       let l : q < p = ltb-true q p e in
       let h : 256 * q + 256 ≤ length (take (256 * p) slab) = rw start (omega arith) in
-      front (take (256 * p) slab) _ q h
-      ∙ (sym (front (take (256 * p) slab) (drop (256 * p) slab) q h)
-      ∙ ap (λ (x : List ℕ). pageAt x q) (take-append-drop (256 * p) slab)))
+      front (take (256 * p) slab) _ q h ∙ page-front slab (256 * p) q h)
       (λ e.
       let l : p ≤ q = ltb-false q p e in
       behind q (omega arith))

@@ -15,6 +15,7 @@ use Rattle.model.specs.Store.{keep, zero-record, _∈_}
 use Rattle.model.specs.Soundness.{used, inUse}
 use Rattle.model.specs.Step.{firstFree, shifted, renumbered}
 use Rattle.model.specs.ByNumber.{Named}
+use Rattle.model.specs.Packed.{SmallestFree}
 use Rattle.model.proofs.Base.{case, absurd-test, keep-true, keep-false, keep-append}
 use Rattle.model.proofs.Latest.{caseOption}
 
@@ -190,21 +191,54 @@ module _ (k : Record → Bool) (all : List Record) where
   unfolding used
   reclaim-used ps n u = count-map inUse (renumbered k all) ps ∙ count-records (λ i. inUse (renumbered k all i)) k all ps refl n (agree-renumber [] all refl) u
 
--- writing: a record withSnapshot in, its place taken
-pub firstFree→ : (ps : List ℕ) (p : ℕ) → firstFree ps ≡ some p → (p < length ps) × (getD ps p 0 ≡ 0)
+-- writing: a record put in, its place taken
+firstFree-suc : {C : Type 0} (k : ℕ) (ps : List ℕ) (p : ℕ) → firstFree (suc k ∷ ps) ≡ some p → ((q : ℕ) → firstFree ps ≡ some q → suc q ≡ p → C) → C
 unfolding firstFree
-firstFree→ [] p e = let z : _≡_ {A = ℕ} 0 1 = cc in absurd (omega arith)
-firstFree→ (zero ∷ ps) p e =
-    let z : 0 ≡ p = cc in
-    rw (← z) (omega arith, refl)
-firstFree→ (suc k ∷ ps) p e =
+firstFree-suc k ps p e then =
     caseOption (firstFree ps)
     (λ n. let e′ : none ≡ some p = rw n at e in let z : _≡_ {A = ℕ} 0 1 = cc in absurd (omega arith))
     (λ q s.
     let e′ : some (suc q) ≡ some p = rw s at e in
-    let z : suc q ≡ p = cc in
-    let ih : (q < length ps) × (getD ps q 0 ≡ 0) = firstFree→ ps q s in
-    rw (← z) (omega arith, ih .1))
+    then q s cc)
+
+smallest-suc : (k : ℕ) (ps : List ℕ) (p : ℕ) → SmallestFree ps p → SmallestFree (suc k ∷ ps) (suc p)
+smallest-suc k ps p f = record { inside = omega (arith, f .inside); free = f .free; least = below }
+  where
+    below : (i : ℕ) → i < suc p → getD (suc k ∷ ps) i 0 ≡ 0 → ⊥
+    below zero l d = omega (arith, d)
+    below (suc i) l d = f .least i (omega arith) d
+
+-- the place found is free, and none below it is
+pub firstFree→ : (ps : List ℕ) (p : ℕ) → firstFree ps ≡ some p → SmallestFree ps p
+unfolding firstFree
+firstFree→ [] p e = let z : _≡_ {A = ℕ} 0 1 = cc in absurd (omega arith)
+firstFree→ (zero ∷ ps) p e =
+    let z : 0 ≡ p = cc in
+    rw (← z) (record { inside = omega arith; free = refl; least = λ k l d. absurd (omega arith) })
+firstFree→ (suc k ∷ ps) p e = firstFree-suc k ps p e (λ q s z. rw (← z) (smallest-suc k ps q (firstFree→ ps q s)))
+
+-- where none is found, none is free
+pub firstFree-none : (ps : List ℕ) → firstFree ps ≡ none → (k : ℕ) → k < length ps → getD ps k 0 ≡ 0 → ⊥
+unfolding firstFree
+firstFree-none [] e k l d = omega arith
+firstFree-none (zero ∷ ps) e k l d = let z : _≡_ {A = ℕ} 0 1 = cc in omega arith
+firstFree-none (suc x ∷ ps) e zero l d = omega (arith, d)
+firstFree-none (suc x ∷ ps) e (suc k) l d =
+    caseOption (firstFree ps)
+    (λ n. firstFree-none ps n k (omega arith) d)
+    (λ q s. let e′ : some (suc q) ≡ none = rw s at e in let z : _≡_ {A = ℕ} 0 1 = cc in omega arith)
+
+-- all places below it are in use
+pub firstFree-used : (ps : List ℕ) (p : ℕ) → firstFree ps ≡ some p → p ≤ used ps
+unfolding firstFree used
+firstFree-used [] p e = let z : _≡_ {A = ℕ} 0 1 = cc in absurd (omega arith)
+firstFree-used (zero ∷ ps) p e = let z : 0 ≡ p = cc in omega arith
+firstFree-used (suc k ∷ ps) p e =
+    firstFree-suc k ps p e
+    (λ q s z.
+    let c : count inUse (suc k ∷ ps) ≡ one (inUse (suc k)) + count inUse ps = count-cons inUse (suc k) ps in
+    let c′ : count inUse (suc k ∷ ps) ≡ 1 + count inUse ps = rw (eqb·suc-zero k) at c in
+    omega (arith, firstFree-used ps q s))
 
 pub shifted-low : (at k : ℕ) → k ≤ at → shifted at k ≡ k
 shifted-low at k h = rw (le-leb k at h)

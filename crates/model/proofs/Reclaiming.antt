@@ -40,7 +40,7 @@ reclaimed-newest s m rs =
     ap reverse (take-append-seam (keep (isAncestor s m) b) (replicate (s .head .branches - length (keep (isAncestor s m) b)) zero-branch ++ drop (s .head .branches) (s .branchRows)))
     ∙ keep-reverse (isAncestor s m) b
 
-reclaimed-records : (s : Store) (m : ℕ) (bs : List Branch) (rs : List Record) → records (reclaimed s m bs rs) ≡ rs
+pub reclaimed-records : (s : Store) (m : ℕ) (bs : List Branch) (rs : List Record) → records (reclaimed s m bs rs) ≡ rs
 unfolding records reclaimed
 reclaimed-records s m bs rs = take-append-seam rs (replicate (s .head .records - length rs) zero-record ++ drop (s .head .records) (s .recordRows))
 

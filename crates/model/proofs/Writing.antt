@@ -25,6 +25,7 @@ use Rattle.model.proofs.Ancestry.{→holds, falls, any-head, find-hold,
 use Rattle.model.proofs.Places.{named-mem, place-unique, firstFree→, write-named, write-used}
 use Rattle.model.proofs.Pages.{length-withPage, page-same, page-other}
 use Rattle.model.specs.Demand3.{key}
+use Rattle.model.specs.Packed.{SmallestFree}
 use Rattle.model.proofs.Invariant.{Reads, Inv, referenceOf}
 use Rattle.model.proofs.Moves.{Stepping, refused-step}
 
@@ -127,7 +128,7 @@ newest-holds floor now (b ∷ bs) l h =
     let o : Open now b = h .0 in
     any-head b bs now (→holds b now (omega arith) (omega arith))
 
-foundPage-same : (slab slab′ : List ℕ) (o : Option Record) → ((q : Record) → o ≡ some q → pageAt slab′ (q .place) ≡ pageAt slab (q .place)) → foundPage slab′ o ≡ foundPage slab o
+pub foundPage-same : (slab slab′ : List ℕ) (o : Option Record) → ((q : Record) → o ≡ some q → pageAt slab′ (q .place) ≡ pageAt slab (q .place)) → foundPage slab′ o ≡ foundPage slab o
 foundPage-same slab slab′ none h = refl
 foundPage-same slab slab′ (some q) h = ap (λ (x : List ℕ). some (record { bytes = x; moment = q .moment })) (h q refl)
 
@@ -200,7 +201,7 @@ pub length-records : (s : Store) → Sizes s → length (records s) ≡ s .head 
 unfolding records
 length-records s z = length-take-le (s .head .records) (s .recordRows) (z .records-counted)
 
-inserted-records : (s : Store) (r : Record) (page : List ℕ) (k : ℕ) → Sizes s → records (inserted s r page k) ≡ putIn k r (records s)
+pub inserted-records : (s : Store) (r : Record) (page : List ℕ) (k : ℕ) → Sizes s → records (inserted s r page k) ≡ putIn k r (records s)
 unfolding inserted records
 inserted-records s r page k z =
     let l : length (putIn k r (records s)) ≡ s .head .records + 1 = omega (arith, length-put k r (records s), length-records s z) in
@@ -291,12 +292,12 @@ write-step s snaps a page h r w =
     caseOption (firstFree (s .placeRows))
     (λ f. rw (e, n, c, f) (no 5))
     (λ p f.
-    let g : (p < length (s .placeRows)) × (getD (s .placeRows) p 0 ≡ 0) = firstFree→ (s .placeRows) p f in
+    let g : SmallestFree (s .placeRows) p = firstFree→ (s .placeRows) p f in
     let q : Record = record { address = a; moment = s .head .now; place = p } in
     rw (e, n, c, f)
     (record {
       inv =
-          insert-inv s snaps q page (before q (records s)) h r w (ltb-true a (s .head .size) e) refl n (ltb-true _ _ c) (g .0) (g .1) refl
+          insert-inv s snaps q page (before q (records s)) h r w (ltb-true a (s .head .size) e) refl n (ltb-true _ _ c) (g .inside) (g .free) refl
           (inserted-records s q page (before q (records s)) (h .sizes));
       right = λ x. refl;
       size = refl;

@@ -8,3 +8,4 @@ pub mod Batch
 pub mod Reference
 pub mod ByNumber
 pub mod Demand3
+pub mod Packed

@@ -38,7 +38,7 @@ withSlab s sl =
 abbrev pub standing : Store → ℕ → Option Record
 standing s a = latest (records s) a (s .head .now) (s .head .now)
 
--- the free place of the smallest number
+-- the free place with the smallest number (change request Two)
 unfoldable pub firstFree : List ℕ → Option ℕ
 firstFree [] = none
 firstFree (zero ∷ ps) = some 0

@@ -1,5 +1,5 @@
 // Faults put into what the store gave, so that the comparison is seen to find them: one to a list, and taken out after it.
-// A number or a byte is more than the store gave, or two records stand in each other's row.
+// A number or a byte is more than the store gave, two records stand in each other's row, or a page stands in another free place.
 use trial_words::layout::ANSWERS;
 use trial_words::layout::AREA;
 use trial_words::layout::BRANCH_TABLE;
@@ -15,6 +15,7 @@ use trial_words::layout::HEAD_NOW;
 use trial_words::layout::HEAD_RECORDS;
 use trial_words::layout::Numbers;
 use trial_words::layout::PAGE_ANSWER;
+use trial_words::layout::PLACE_ROWS;
 use trial_words::layout::PLACE_TABLE;
 use trial_words::layout::PLAY;
 use trial_words::layout::RECORD_TABLE;
@@ -35,10 +36,14 @@ ghost use mathlib.Core.Path.{_≡_};
 ghost use lib.ListN.{getD};
 
 // The faults are numbered from 1, as the program `trials` names them.
-// Where a fault can stand: an index of the table of numbers; BYTES and an index of the table of bytes; two records in each other's row.
+// Where a fault can stand: an index of the table of numbers; BYTES and an index of the table of bytes; two records in each other's row;
+// a record in another free place.
 const BYTES: u32 = 65536;
 
 const SWAPPED: u32 = 131072;
+
+// A record's page moved to another free place: and 16 times its place, and the other one.
+const MOVED: u32 = 131073;
 
 const NOWHERE: u32 = 4294967295;
 
@@ -69,6 +74,7 @@ fn in_batch(w: &Numbers, fault: u32) -> u32 {
         16..=20 => in_record(w, fault, get(w, HEAD_RECORDS)),
         21 => plus(BYTES, plus(ANSWERS, get(w, plus(STOP, 3)))),
         22 => plus(BYTES, plus(ANSWERS, minus(get(w, AREA), 1))),
+        40 => in_place(w, get(w, HEAD_RECORDS), largest_free(w)),
         _ => NOWHERE,
     }
 }
@@ -86,6 +92,29 @@ fn in_record(w: &Numbers, fault: u32, records: u32) -> u32 {
         19 => plus(BYTES, plus(SLAB, place * 256 + 255)),
         _ => plus(PLACE_TABLE, place),
     }
+}
+
+// The largest free place; 16 where there is none.
+fn largest_free(w: &Numbers) -> u32 {
+    let mut last: u32 = 16;
+    for p in 0..get(w, PLACE_ROWS) {
+        if get(w, plus(PLACE_TABLE, p)) == 0 {
+            last = p;
+        }
+    }
+    last
+}
+
+// The last record, in the largest free place.
+fn in_place(w: &Numbers, records: u32, free: u32) -> u32 {
+    if records == 0 {
+        return NOWHERE;
+    }
+    if free > 15 {
+        return NOWHERE;
+    }
+    let place = get(w, plus(record_row(minus(records, 1)), 2)) % 16;
+    MOVED + place * 16 + free
 }
 
 fn in_page(b: &Bytes, fault: u32) -> u32 {
@@ -144,6 +173,27 @@ fn swap_records(w: &mut Numbers) {
     swap(w, RECORD_TABLE + 2, RECORD_TABLE + 5);
 }
 
+fn swap_byte(b: &mut Bytes, i: u32, j: u32) {
+    let x = byte(b, i);
+    let y = byte(b, j);
+    put_byte(b, i, y);
+    put_byte(b, j, x);
+}
+
+fn swap_pages(b: &mut Bytes, p: u32, q: u32) {
+    for i in 0..256u32 {
+        swap_byte(b, SLAB + p % 16 * 256 + i, SLAB + q % 16 * 256 + i);
+    }
+}
+
+// The record of a place, with its page, in a free place.
+fn move_page(w: &mut Numbers, b: &mut Bytes, from: u32, to: u32) {
+    let row = minus(get(w, plus(PLACE_TABLE, from)), 1);
+    put(w, plus(record_row(row), 2), to);
+    swap(w, plus(PLACE_TABLE, from), plus(PLACE_TABLE, to));
+    swap_pages(b, from, to);
+}
+
 fn shift(w: &mut Numbers, b: &mut Bytes, at: u32, by: u32) {
     if at < BYTES {
         add(w, at, by);
@@ -157,6 +207,16 @@ fn shift(w: &mut Numbers, b: &mut Bytes, at: u32, by: u32) {
     }
     if at == SWAPPED {
         swap_records(w);
+        return;
+    }
+    if at < MOVED + 256 {
+        let there = minus(at, MOVED) / 16;
+        let other = minus(at, MOVED) % 16;
+        if by == 1 {
+            move_page(w, b, there, other);
+        } else {
+            move_page(w, b, other, there);
+        }
     }
 }
 

@@ -101,6 +101,7 @@ pub fn judge(w: &mut Numbers, b: &Bytes) -> u32
 {
     put_two(w, DUE, RUNNING, 0);
     put_two(w, TAKEN, 0, 0);
+    trial_reference::places::begin_batch(w);
     judge_all(w, b, get(w, COUNT));
     judge_end(w);
     judge_report(w, b);
@@ -257,7 +258,7 @@ fn expect_moments(w: &mut Numbers) {
     put_two(w, HEAD_DUE + 3, now, floor);
 }
 
-// How much is wrong of n records: each is a held pair, with its page's bytes at its place. That each is there once and
+// How much is wrong of n records: each is a held pair, in the pair's place, with its page's bytes there. That each is there once and
 // in the volume's range is what the table checks say.
 fn records_wrong(w: &Numbers, b: &Bytes, n: u32) -> u32 {
     let mut wrong: u32 = 0;
@@ -270,9 +271,16 @@ fn records_wrong(w: &Numbers, b: &Bytes, n: u32) -> u32 {
 fn record_wrong(w: &Numbers, b: &Bytes, k: u32) -> u32 {
     let at = record_row(k);
     let i = trial_reference::index(w, get(w, plus(at, 1)));
-    let place = get(w, plus(at, 2)) % 65536;
+    let place = get(w, plus(at, 2));
     let held = get(w, held_at(i, get(w, at)));
-    others(b, plus(SLAB, place * 256), 256, minus(held, 1))
+    let elsewhere: u32 = if place == held / 512 { 0 } else { 1 };
+    let bytes = others(
+        b,
+        plus(SLAB, place % 65536 * 256),
+        256,
+        minus(held % 512, 1),
+    );
+    plus(elsewhere, bytes)
 }
 
 // What is due of a batch on a changed store: the stop that the table checks give. Where they give none, nothing is handed in. Answers the stop.

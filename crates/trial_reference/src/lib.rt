@@ -1,5 +1,8 @@
 // The reference: a complete snapshot of the volume for each moment, the held pairs, now and floor; plain, and slow on purpose.
-// Beside them it keeps which branch each moment belongs to, since a revert is refused by the number of branches kept.
+// Beside them it keeps which branch each moment belongs to, since a revert is refused by the number of branches kept, and the place of
+// each held pair.
+pub mod places;
+
 use trial_words::layout::BASE;
 use trial_words::layout::BRANCH_ROWS;
 use trial_words::layout::FLOOR;
@@ -78,6 +81,7 @@ pub fn reset(w: &mut Numbers)
     put_two(w, NOW, 0, 0);
     put_two(w, MADE, 1, 1);
     put(w, HELD, 0);
+    places::free_all(w);
     reset_first(w);
 }
 
@@ -121,16 +125,20 @@ fn copy_all(w: &mut Numbers, from: u32, to: u32) {
     }
 }
 
-// One where a pair was not held before.
-fn newly(code: u32) -> u32 {
-    if code == 0 { 1 } else { 0 }
+// The place of a pair; one that was not held before is one more, and takes a place.
+fn place_for(w: &mut Numbers, held: u32) -> u32 {
+    if held == 0 {
+        add(w, HELD, 1);
+        places::take(w)
+    } else {
+        held / 512
+    }
 }
 
 fn hold(w: &mut Numbers, i: u32, a: u32, code: u32) {
     let at = held_at(i, a);
-    let more = newly(get(w, at));
-    add(w, HELD, more);
-    put(w, at, code);
+    let place = place_for(w, get(w, at));
+    put(w, at, plus(place % 16 * 512, code));
 }
 
 fn write(w: &mut Numbers, a: u32, value: u32) -> u32 {
@@ -254,8 +262,10 @@ fn release_row(w: &mut Numbers, i: u32) {
 }
 
 fn release(w: &mut Numbers, i: u32, a: u32) {
-    if get(w, held_at(i, a)) != 0 {
+    let held = get(w, held_at(i, a));
+    if held != 0 {
         if get(w, stays_at(i, a)) == 0 {
+            places::give_back(w, held / 512);
             put(w, held_at(i, a), 0);
             add(w, HELD, LAST);
         }

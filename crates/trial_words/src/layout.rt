@@ -123,6 +123,13 @@ pub const FAULTS: u32 = 62;
 // How often each refusal or stop came up.
 pub const SEEN: u32 = 64;
 
+// The place that the batch took last; how often another choice would have given another place, for four choices; the 16 places.
+pub const LAST_TAKEN: u32 = 37;
+
+pub const TOLD: u32 = 92;
+
+pub const PLACES: u32 = 112;
+
 // The head that is due (5 numbers), and how much a batch changed of each table and of the slab.
 pub const HEAD_DUE: u32 = 80;
 
@@ -172,7 +179,7 @@ pub(crate) fn request_at(k: u32) -> u32
     128 + k % 16 * 8
 }
 
-// A held pair: 0, or one more than the byte of its page.
+// A held pair: 0, or one more than the byte of its page, with 512 for each place below its own.
 pub fn held_at(i: u32, a: u32) -> u32
     ensures { λ r. ⌜ r ≡ 1024 + i % 256 * 4 + a % 4 ⌝ }
 {

@@ -17,6 +17,7 @@ use trial_words::layout::RUN;
 use trial_words::layout::SEED;
 use trial_words::layout::SEEN;
 use trial_words::layout::SIZE;
+use trial_words::layout::TOLD;
 use trial_words::words::get;
 use trial_words::words::plus;
 use trial_words::words::put;
@@ -192,6 +193,19 @@ fn say_count(w: &Numbers, i: u32) {
     say(w, i);
 }
 
+// How often a place was taken where each other choice would have given another one.
+fn say_told(w: &Numbers) {
+    io::write_all(1, b"a place was taken that is not the largest free one");
+    say_count(w, TOLD);
+    io::write_all(1, b", not the one behind the last in use");
+    say_count(w, TOLD + 1);
+    io::write_all(1, b", not the first that was free when the batch began");
+    say_count(w, TOLD + 2);
+    io::write_all(1, b", below the one that the batch took last");
+    say_count(w, TOLD + 3);
+    io::write_all(1, b"\n");
+}
+
 fn say_seen(w: &Numbers) {
     for k in 1..15u32 {
         say_count(w, plus(SEEN, k));
@@ -218,7 +232,7 @@ fn with_fault(w: &mut Numbers, fault: u32) {
 }
 
 fn all_faults(w: &mut Numbers) {
-    for fault in 1..40u32 {
+    for fault in 1..41u32 {
         with_fault(w, fault);
     }
 }
@@ -230,6 +244,7 @@ fn main() {
     io::write_all(1, b"refusals and stops 1 to 14 came up:");
     say_seen(&w);
     io::write_all(1, b"\n");
+    say_told(&w);
     set_family(&mut w, FAULT_FAMILY);
     all_faults(&mut w);
 }

@@ -53,7 +53,8 @@ the record rows of a fresh store\n\
 the place rows of a fresh store\n\
 the other branch rows of a fresh store\n\
 the first byte of a date read back\nthe second byte of a date read back\n\
-the third byte of a date read back\nthe last byte of a date read back";
+the third byte of a date read back\nthe last byte of a date read back\n\
+the place of the last record, another free one";
     io::write_all(1, b"a fault in ");
     say_line(names, fault);
     io::write_all(1, b": put into ");

@@ -1,3 +1,4 @@
 pub mod Session
 pub mod Refusals
 pub mod Dates
+pub mod Packed

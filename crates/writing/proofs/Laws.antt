@@ -8,7 +8,7 @@ use Prim.Native.Nat.{ℕ, zero, suc, _+_, _*_, _-_, _≤_, _<_, suc-le-suc}
 use native.Mathlib.Nat.{le-of-suc-le-suc, not-suc-le-zero, le-refl}
 use native.Mathlib.Decide.{decLt, ℕ-discrete}
 use native.Mathlib.Omega.{arith}
-use lib.ListN.{length, getD, set, take, drop, length-set, length-map}
+use lib.ListN.{length, getD, set, take, drop, length-set, length-map, List·getD-eq-default}
 use lib.Seq.{getD-take, length-take-le, getD-set-same, getD-set-other, ext-getD, paste, take-all}
 use borrow.Author.Tests.{lt-ltb, le-ltb}
 use Rattle.model.specs.declared.Head.{Head}
@@ -16,6 +16,7 @@ use Rattle.model.specs.declared.Record.{Record}
 use Rattle.model.specs.Store.{Store, records, zero-record, withPage}
 use Rattle.model.specs.Lookup.{latest}
 use Rattle.model.specs.Soundness.{precedes}
+use Rattle.model.specs.Packed.{SmallestFree}
 use Rattle.model.specs.Step.{headWith, firstFree, before, shifted, putIn, inserted, written, doWrite, step}
 use Rattle.model.specs.Wire.{write}
 use Rattle.model.proofs.Base.{case}
@@ -30,7 +31,7 @@ use Rattle.rows.specs.View.{Tables, withRecords, withPlaces, withSlab, storeOf,
 use Rattle.model.specs.ByNumber.{Ascend, entry}
 use Rattle.lookup.proofs.Laws.{Bracket}
 use Rattle.lookup.proofs.Walk.{Span, span-start, latest-here, latest-low, latest-other, latest-end}
-use Rattle.writing.specs.Free.{freeOf}
+use Rattle.writing.specs.Free.{freeOf, NoneBelow}
 use Rattle.writing.specs.declared.Free.{Free}
 use Rattle.writing.specs.declared.Free.the-variants.{At}
 use Rattle.writing.specs.Writable.{Slot}
@@ -49,6 +50,34 @@ unfolding firstFree
 free-none [] h = refl
 free-none (zero ∷ ps) h = absurd (h 0 (omega arith) refl)
 free-none (suc x ∷ ps) h = ap (Option·map suc) (free-none ps (λ k m. h (suc k) (suc-le-suc m)))
+
+-- the search begins inside the table, and a place that is taken is not free any more
+pub none-inside : (ps : List ℕ) (low : ℕ) → NoneBelow low ps → low ≤ length ps
+none-inside ps low h = go (decLt (length ps) low)
+  where
+    go : Dec (length ps < low) → low ≤ length ps
+    go (yes l) = absurd (h (length ps) l (List·getD-eq-default ps 0 (le-refl (length ps))))
+    go (no l) = omega arith
+
+shifted-free : (at k : ℕ) → shifted at k ≡ 0 → k ≡ 0
+shifted-free at k e = go (decLt at k)
+  where
+    go : Dec (at < k) → k ≡ 0
+    go (yes l) = absurd (omega (arith, shifted-high at k l))
+    go (no l) = omega (arith, shifted-low at k (omega arith))
+
+pub none-taken : (ps : List ℕ) (at p : ℕ) → SmallestFree ps p → NoneBelow (p + 1) (set (map (shifted at) ps) p (at + 1))
+none-taken ps at p f k l e = go (decLt k p)
+  where
+    go : Dec (k < p) → ⊥
+    go (yes d) =
+        let x : getD (set (map (shifted at) ps) p (at + 1)) k 0 ≡ shifted at (getD ps k 0) =
+        getD-set-other (map (shifted at) ps) p k (at + 1) 0 (λ z. omega (arith, z)) ∙ getD-map-lt (shifted at) ps k (omega (arith, f .inside)) in
+        f .least k d (shifted-free at (getD ps k 0) (sym x ∙ e))
+    go (no d) =
+        let z : k ≡ p = omega arith in
+        let x : getD (set (map (shifted at) ps) p (at + 1)) k 0 ≡ at + 1 = rw z (getD-set-same (map (shifted at) ps) p (at + 1) 0 (omega (arith, f .inside, length-map ps (shifted at)))) in
+        omega arith
 
 -- place rows, changed one by one
 pub record Mapped (f : ℕ → ℕ) (us vs : List ℕ) (i : ℕ) : Type 0 where
@@ -220,7 +249,7 @@ module _ (head : Head) (t : Tables) (a : ℕ) (page : List ℕ) (r : Outcome) wh
 -- a place is free for a new record
 pub record Taking (head : Head) (rt pt : List ℕ) (at p : ℕ) : Type 0 where
   pub free : firstFree pt ≡ some p
-  pub inside : p < length pt
+  pub smallest : SmallestFree pt p
   pub row : at ≤ head .records
   pub more : head .records < length (recordRowsOf rt)
 
@@ -230,7 +259,7 @@ taking-of head rt pt a at p f e d s l =
     let g : firstFree pt ≡ some p = sym d ∙ ap freeOf e in
     record {
       free = g;
-      inside = firstFree→ pt p g .0;
+      smallest = firstFree→ pt p g;
       row = omega (arith, s .inside, length-take-le (head .records) (recordRowsOf rt) (omega arith));
       more = l;
     }

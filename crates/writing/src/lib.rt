@@ -16,7 +16,7 @@ ghost use Rattle.model.specs.Step.{firstFree, shifted, putIn, written};
 ghost use Rattle.rows.specs.Rows.{recordRowsOf, RecordsLaid, RecordsIn};
 ghost use Rattle.rows.specs.View.{Tables, withRecords, withPlaces, withSlab, storeOf, foundOf, Leaves, Carried};
 ghost use Rattle.lookup.specs.Order.{upTo};
-ghost use Rattle.writing.specs.Free.{freeOf};
+ghost use Rattle.writing.specs.Free.{freeOf, NoneBelow};
 ghost use Rattle.writing.specs.Writable.{Room, Writable, Slot};
 
 pub enum Free {
@@ -24,11 +24,12 @@ pub enum Free {
     Full,
 }
 
-// The smallest free place.
-fn first_free(pt: &[u32]) -> Free
+// The free place with the smallest number; no place below `from` is free.
+fn first_free(pt: &[u32], from: usize) -> Free
+    requires { ⌜ NoneBelow from (now pt) ⌝ }
     ensures { λ r. ⌜ freeOf r ≡ firstFree (now (pt .entry)) ⌝ }
 {
-    let mut i: usize = 0;
+    let mut i = from;
     while i < pt.len() {
         if pt[i] == 0 {
             return Free::At(i);
@@ -109,7 +110,7 @@ fn standing(rt: &[u32], n: usize, a: u32, t: u32, c: usize) -> Found
     Found::Nothing
 }
 
-// A new record for the page, at the row at.
+// A new record for the page, at the row at. The search for a place begins at low, and says where the next one may begin.
 fn write_new(
     head: Head,
     rt: &mut [u32],
@@ -118,18 +119,22 @@ fn write_new(
     a: u32,
     page: &[u8],
     at: usize,
+    low: &mut usize,
 ) -> Outcome
     requires { ⌜ Room head (now rt) (now pt) (now slab) ⌝ }
     requires { ⌜ (length (now page) ≡ 256) × Slot (take (head .records) (recordRowsOf (now rt))) a (head .now) at ⌝ }
+    requires { ⌜ NoneBelow (now low) (now pt) ⌝ }
     ensures { λ r. ⌜ ((t : Tables) → Leaves (written (storeOf head (withSlab (now (slab .entry)) (withPlaces (now (pt .entry)) (withRecords (now (rt .entry)) t)))) a (now (page .entry)) none) none (withSlab (now (slab .entry)) (withPlaces (now (pt .entry)) (withRecords (now (rt .entry)) t))) r (withSlab (now (slab .exit)) (withPlaces (now (pt .exit)) (withRecords (now (rt .exit)) t)))) ⌝ }
+    ensures { λ _. ⌜ NoneBelow (now (low .exit)) (now (pt .exit)) ⌝ }
 {
     let present = head.now;
     let n = head.records as usize;
     if rows::record_rows(rt) <= n {
         return rows::refused(head, 5);
     }
-    let free = first_free(pt);
+    let free = first_free(pt, *low);
     let Free::At(p) = free else {
+        *low = pt.len();
         return rows::refused(head, 6);
     };
     let row = at as u32;
@@ -141,6 +146,7 @@ fn write_new(
     insert_row(rt, n, at, r);
     shift_places(pt, row);
     pt[p] = row + 1;
+    *low = p + 1;
     put_page(slab, p, page);
     let after = Head {
         size: head.size,
@@ -152,7 +158,8 @@ fn write_new(
     rows::accepted(after, present)
 }
 
-// The page at (a, now): in the place of the record that stands there, else in a free one.
+// The page at (a, now): in the place of the record that stands there, else in the free place with the smallest number. No place below
+// low is free, before and after.
 pub fn write(
     head: Head,
     rt: &mut [u32],
@@ -160,10 +167,13 @@ pub fn write(
     slab: &mut [u8],
     a: u32,
     page: &[u8],
+    low: &mut usize,
 ) -> Outcome
     requires { ⌜ Writable head (now rt) (now pt) (now slab) ⌝ }
     requires { ⌜ length (now page) ≡ 256 ⌝ }
+    requires { ⌜ NoneBelow (now low) (now pt) ⌝ }
     ensures { λ r. ⌜ ((t : Tables) → Carried head (withSlab (now (slab .entry)) (withPlaces (now (pt .entry)) (withRecords (now (rt .entry)) t))) (write a (now (page .entry))) r (withSlab (now (slab .exit)) (withPlaces (now (pt .exit)) (withRecords (now (rt .exit)) t)))) ⌝ }
+    ensures { λ _. ⌜ NoneBelow (now (low .exit)) (now (pt .exit)) ⌝ }
 {
     let present = head.now;
     if head.size <= a {
@@ -178,6 +188,6 @@ pub fn write(
             put_page(slab, own, page);
             rows::accepted(head, present)
         }
-        Found::Nothing => write_new(head, rt, pt, slab, a, page, c),
+        Found::Nothing => write_new(head, rt, pt, slab, a, page, c, low),
     }
 }

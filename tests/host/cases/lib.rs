@@ -4,16 +4,23 @@
 use reference::pictures::Pile;
 use reference::*;
 
+mod copies;
 mod draw;
+mod packed;
 mod tables;
 
+use copies::copies;
 use draw::*;
+use packed::packed;
 use tables::*;
 
 /// A host that lends areas to the library, calls it and compares.
 pub trait Host {
     /// From here on the lent areas have these lengths and bytes.
     fn lend(&mut self, areas: &Areas);
+    /// From here on a copy of the lent areas is lent. It is laid onto areas of these lengths and bytes: head and
+    /// tables, and of the slab the bytes in use.
+    fn copy_onto(&mut self, onto: &Areas);
     /// Calls for a fresh store; the result that the reference gives.
     fn fresh(&mut self, size: u32, result: u32);
     /// Calls for a batch, with an answer area of these bytes; report and answer area that the reference gives.
@@ -22,6 +29,8 @@ pub trait Host {
     fn compare(&mut self, areas: &Areas);
     /// The family of cases is complete.
     fn end(&mut self, name: &str);
+    /// Says more of the family that is complete.
+    fn note(&mut self, what: &str);
     /// A difference between the reference and the pile of pictures.
     fn pile_differs(&mut self, what: &str);
 }
@@ -51,6 +60,20 @@ impl<'a> Run<'a> {
         self.areas = areas;
     }
 
+    /// Goes on with a copy, laid onto these areas. Of the slab it has the pages up to the last that a record has.
+    fn copy_onto(&mut self, mut onto: Areas) {
+        self.host.copy_onto(&onto);
+        let places = rows(&self.areas).counted_records().iter().map(|record| record.place as usize + 1).max();
+        let in_use = PAGE * places.unwrap_or(0);
+        onto.head.copy_from_slice(&self.areas.head);
+        onto.branches[..self.areas.branches.len()].copy_from_slice(&self.areas.branches);
+        onto.records[..self.areas.records.len()].copy_from_slice(&self.areas.records);
+        onto.places[..self.areas.places.len()].copy_from_slice(&self.areas.places);
+        onto.slab[..in_use].copy_from_slice(&self.areas.slab[..in_use]);
+        self.host.compare(&onto);
+        self.areas = onto;
+    }
+
     fn fresh(&mut self, size: u32) -> u32 {
         let result = reference::fresh(size, &mut self.areas);
         self.host.fresh(size, result);
@@ -71,9 +94,9 @@ impl<'a> Run<'a> {
     }
 
     /// A batch whose answers are compared with the pile, too, if there is one.
-    fn batch_beside(&mut self, pile: &mut Option<Pile>, bytes: &[u8], before: &[u8]) -> Report {
+    fn batch_beside(&mut self, pile: &mut Option<Pile>, bytes: &[u8], before: &[u8]) -> (Report, Vec<u8>) {
         let mut wrong = None;
-        let (report, _) = self.batch(bytes, before, |request, answer| {
+        let served = self.batch(bytes, before, |request, answer| {
             let due = pile.as_mut().and_then(|pile| pile.take(request, answer.refusal != 0));
             if due.is_some_and(|due| due != *answer) {
                 wrong = Some(format!("the answer to {request:?}"));
@@ -82,7 +105,7 @@ impl<'a> Run<'a> {
         if let Some(what) = wrong {
             self.host.pile_differs(&what);
         }
-        report
+        served
     }
 
     fn head(&self, index: usize) -> u32 {
@@ -140,7 +163,7 @@ fn run_batches(run: &mut Run, draw: &mut Draw, batches: u64, most: u64, pile: &m
         waiting.extend(more);
         let cut = if draw.percent(30) { draw.below(waiting.len() as u64 + 1) as usize } else { waiting.len() };
         let area = drawn_answer_area(draw, &run.areas, &waiting[..cut]);
-        let report = run.batch_beside(pile, &waiting[..cut], &area);
+        let (report, _) = run.batch_beside(pile, &waiting[..cut], &area);
         if draw.percent(60) {
             let unread = if report.stop == 12 || report.stop == 13 { draw.one_of(&[1, 7]) as usize } else { 0 };
             let dropped = (report.request_bytes as usize + unread).min(waiting.len());
@@ -440,8 +463,8 @@ pub fn full_tables(host: &mut dyn Host, seed: u64, count: u64) {
 
 /// A hundred years are 5,218 weeks. Weekly changes of one group of settings over full tables: writes to
 /// some of the group's 128 pages and a mark; now and then a set-back, some of them undone weeks later;
-/// every month a reclaim that leaves a year, in some decades ten. In the last decades the record table
-/// gets full now and then. The lent areas are compared every `interval` weeks, answers and counts
+/// every month a reclaim that leaves a year, in some decades ten, and a few writes behind it. In the last
+/// decades the record table gets full now and then. The lent areas are compared every `interval` weeks, answers and counts
 /// after every call.
 pub fn hundred_years(host: &mut dyn Host, seed: u64, weeks: u64, interval: u64) {
     let draw = &mut Draw::new(seed);
@@ -496,6 +519,10 @@ pub fn hundred_years(host: &mut dyn Host, seed: u64, weeks: u64, interval: u64) 
             let years = if week / 522 % 3 == 1 { 10 } else { 1 };
             bytes.extend(reclaim(now.saturating_sub(65 * years).max(outlook.floor)));
             bytes.extend(read(128 * group, now));
+            // Some of the places that it freed are taken at once.
+            for _ in 0..draw.within(1, 12) {
+                bytes.extend(write(128 * group + draw.below(128), &draw.bytes(PAGE)));
+            }
         }
         let mut sealed = None;
         run.batch(&bytes, &[0x22; PAGE_ANSWER_BYTES * 60], |request, answer| {
@@ -538,6 +565,12 @@ pub fn all(host: &mut dyn Host, seed: u64, scale: u64, families: &str) {
     }
     if chosen("longer") {
         longer_lists(host, seed, part(100));
+    }
+    if chosen("packed") {
+        packed(host, seed, part(4_000), part(20));
+    }
+    if chosen("copies") {
+        copies(host, seed, part(1_500));
     }
     if chosen("sound") {
         sound_tables(host, seed, part(80_000));

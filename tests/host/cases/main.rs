@@ -1,10 +1,12 @@
 //! Writes the cases to standard output, for a host in another language. Every number is eight bytes,
 //! least significant first; an area is its length and its bytes. Records:
 //! L head branches records places slab       lend areas of these bytes
+//! Y head branches records places slab       lend a copy, laid onto these bytes
 //! F size result                             a fresh store
 //! B batch area stop answered request-bytes answer-bytes after    a batch
 //! C head branches records places slab       the lent areas as they must be
 //! E name                                    the end of a family
+//! N line                                    more to say of it
 //! Z differences                             the end: differences between reference and pile of pictures
 
 use cases::Host;
@@ -50,6 +52,11 @@ impl Host for Written {
         self.areas(areas);
     }
 
+    fn copy_onto(&mut self, onto: &Areas) {
+        self.tag(b'Y');
+        self.areas(onto);
+    }
+
     fn fresh(&mut self, size: u32, result: u32) {
         self.tag(b'F');
         self.number(u64::from(size));
@@ -75,6 +82,11 @@ impl Host for Written {
     fn end(&mut self, name: &str) {
         self.tag(b'E');
         self.area(name.as_bytes());
+    }
+
+    fn note(&mut self, what: &str) {
+        self.tag(b'N');
+        self.area(what.as_bytes());
     }
 
     fn pile_differs(&mut self, what: &str) {

@@ -1,9 +1,11 @@
-//! Writes requests and answers to standard output, each with its bytes, for the test of include/kizmoolet_requests.h. Every
-//! number is eight bytes, least significant first; an area is its length and its bytes. Records:
+//! Writes requests and answers to standard output, each with its bytes, and place tables, for the test of
+//! include/kizmoolet_requests.h. Every number is eight bytes, least significant first; an area is its length and its bytes.
+//! Records:
 //! K numbers                                   the reference's sizes
 //! Q operation address moment page bytes       a request as the reference reads these bytes; page empty if there is none
 //! A refusal number date page bytes            an answer and the bytes that the reference writes for it; date 0 and page
 //!                                             empty if there is none
+//! S places in-use                             a place table, and up to which byte the slab is in use
 //! Z                                           the end
 
 use reference::*;
@@ -86,6 +88,48 @@ fn answer(out: &mut Out, refusal: u32, number: u32, found: Option<DatedPage>) {
     out.area(&answer_bytes(&answer));
 }
 
+fn place_table(out: &mut Out, places: &[u8]) {
+    out.bytes(b"S");
+    out.area(places);
+    out.number(slab_in_use(places) as u64);
+}
+
+/// A table of these rows: as it is, and with one to three bytes behind its last row, set or not.
+fn place_tables(out: &mut Out, rows: &[u32]) {
+    let bytes: Vec<u8> = rows.iter().flat_map(|row| row.to_be_bytes()).collect();
+    place_table(out, &bytes);
+    for odd in 1..PLACE_BYTES {
+        for byte in [0, 1, 0xFF] {
+            place_table(out, &[bytes.as_slice(), &vec![byte; odd]].concat());
+        }
+    }
+}
+
+/// Place tables of up to 9 rows, with the last one in use at each place; and some of the largest size.
+fn all_place_tables(out: &mut Out, drawn: &mut Drawn) {
+    for length in 0..10 {
+        place_tables(out, &vec![0; length]);
+        let used: Vec<u32> = (1..=length as u32).collect();
+        place_tables(out, &used);
+        for last in 0..length {
+            // Every bit alone, so every one of the four bytes alone; with any rows before.
+            for bit in 0..32 {
+                let mut rows = vec![0; length];
+                rows[last] = 1 << bit;
+                place_tables(out, &rows);
+                rows[..last].fill_with(|| drawn.next() as u32 & 3);
+                place_tables(out, &rows);
+            }
+        }
+    }
+    place_tables(out, &vec![0; MOST_PLACES]);
+    for last in [0, 1, 255, 256, 32_767, 65_534, 65_535] {
+        let mut rows = vec![0; MOST_PLACES];
+        rows[last] = 65_536;
+        place_tables(out, &rows);
+    }
+}
+
 fn main() {
     let seed = std::env::args().nth(1).and_then(|word| word.parse().ok()).expect("a seed");
     let mut drawn = Drawn(seed);
@@ -127,6 +171,7 @@ fn main() {
             answer(&mut out, 0, number, Some(DatedPage { date, page }));
         }
     }
+    all_place_tables(&mut out, &mut drawn);
     out.bytes(b"Z");
     if out.0.flush().is_err() {
         std::process::exit(2);

@@ -1,6 +1,6 @@
-//! The page history store of document 01, with change request One of document 02, written from these
-//! documents alone and as plainly as they read. It works on the same byte areas as the library that it
-//! is compared with: every number of head and tables is four bytes, most significant first. Each batch
+//! The page history store of document 01, with change requests One and Two of document 02, written from
+//! these documents alone and as plainly as they read. It works on the same byte areas as the library that
+//! it is compared with: every number of head and tables is four bytes, most significant first. Each batch
 //! turns the bytes into rows, checks them, serves the requests on the rows and turns the rows back into
 //! bytes.
 
@@ -196,6 +196,18 @@ fn bytes_of(store: Store, areas: &mut Areas) {
 pub fn dated_page(record: &Record, slab: &[u8]) -> DatedPage {
     let from = PAGE * record.place as usize;
     DatedPage { date: record.moment, page: slab[from..from + PAGE].to_vec() }
+}
+
+/// Up to which byte the slab is in use, by the bytes of a place table: 256 times the last place that is
+/// not free, plus 256; 0 if every place is free. Bytes past the last whole row are not looked at.
+pub fn slab_in_use(places: &[u8]) -> usize {
+    let mut end = 0;
+    for (place, row) in places.chunks_exact(PLACE_BYTES).enumerate() {
+        if number_at(row, 0) != 0 {
+            end = PAGE * (place + 1);
+        }
+    }
+    end
 }
 
 // ---------------------------------------------------------------------------------------------
@@ -496,8 +508,8 @@ impl Store {
         self.rows_of_address(address).find(|row| self.records[*row].moment == moment)
     }
 
-    /// The place that a new record takes. The document leaves it open which free place that is; both
-    /// sides of a comparison byte for byte take the first.
+    /// The place that a new record takes: the free one with the smallest number (document 02, Two), as the
+    /// place table stands at this request of the batch.
     fn free_place(&self) -> Option<usize> {
         self.places.iter().position(|place| *place == 0)
     }

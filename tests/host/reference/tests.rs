@@ -304,3 +304,125 @@ fn kept_by_branch_is_kept_by_every_moment() {
         }
     }
 }
+
+// ---------------------------------------------------------------------------------------------
+// Document 02, Two: a write takes the free place with the smallest number
+
+/// The place table as letters: of the page at each place in use, and a dot where the place is free.
+fn slab_letters(areas: &Areas) -> String {
+    let places = rows(areas).places;
+    let letter = |place: usize| if places[place] == 0 { '.' } else { char::from(areas.slab[PAGE * place]) };
+    (0..places.len()).map(letter).collect()
+}
+
+/// The refusals of these requests, and the place table after them.
+fn placed(areas: &mut Areas, requests: &[Vec<u8>]) -> (Vec<u32>, String) {
+    let refusals = answers(areas, requests).iter().map(|answer| answer.0).collect();
+    (refusals, slab_letters(areas))
+}
+
+/// Pages A to F of moment 0 at places 0 to 5; at moment 1 addresses 4, 1 and 0 are written again, at places 6 to 8.
+fn six_pages(places: usize) -> Areas {
+    let mut store = made(20, 4, 30, places);
+    let first: Vec<Vec<u8>> = (0..6).map(|address| write(address, b'A' + address as u8)).collect();
+    assert_eq!(placed(&mut store, &first).1[..7], *"ABCDEF.");
+    let again = [mark(), write(4, b'e'), write(1, b'b'), write(0, b'a')];
+    assert_eq!(placed(&mut store, &again).1[..10], *"ABCDEFeba.");
+    store
+}
+
+#[test]
+fn places_of_a_fresh_store() {
+    let mut store = made(64, 16, 5, 5);
+    assert_eq!(placed(&mut store, &[write(9, b'A'), write(3, b'B'), mark()]).1, "AB...");
+    assert_eq!(placed(&mut store, &[write(9, b'C')]).1, "ABC..");
+    let records: Vec<(u32, u32, u32)> =
+        rows(&store).counted_records().iter().map(|record| (record.address, record.moment, record.place)).collect();
+    assert_eq!(records, [(3, 0, 1), (9, 0, 0), (9, 1, 2)]);
+    // A write over a page at now, a mark, a revert and a read take no place.
+    assert_eq!(placed(&mut store, &[write(9, b'D'), mark(), revert(0), read(9, 0)]).1, "ABD..");
+    assert_eq!(placed(&mut store, &[write(0, b'E'), write(1, b'F')]).1, "ABDEF");
+}
+
+#[test]
+fn places_freed_in_the_same_batch() {
+    // The reclaim frees places 4, 1 and 0, in the middle and before it: the next writes take them in
+    // ascending order, and then go on behind the last one in use.
+    let mut store = six_pages(12);
+    let list = [reclaim(1), write(7, b'0'), write(8, b'1'), write(9, b'4'), write(10, b'9'), write(11, b'x')];
+    assert_eq!(placed(&mut store, &list), (vec![0; 6], "01CD4Feba9x.".to_string()));
+    // Step by step.
+    let mut store = six_pages(12);
+    for (request, after) in [
+        (reclaim(1), "..CD.Feba..."),
+        (write(7, b'0'), "0.CD.Feba..."),
+        // An overwrite stays in its place, though a place before it is free.
+        (write(0, b'z'), "0.CD.Febz..."),
+        (write(7, b'y'), "y.CD.Febz..."),
+        (write(8, b'1'), "y1CD.Febz..."),
+        (write(9, b'4'), "y1CD4Febz..."),
+        (write(10, b'9'), "y1CD4Febz9.."),
+    ] {
+        assert_eq!(placed(&mut store, &[request]), (vec![0], after.to_string()));
+    }
+    // Write, free, write, free in one batch: the second reclaim frees place 0 again.
+    let mut store = six_pages(12);
+    let list = [reclaim(1), write(7, b'0'), mark(), write(7, b'1'), reclaim(2), write(8, b'2'), write(9, b'3')];
+    assert_eq!(placed(&mut store, &list).1, "21CD3Feba...");
+    // One that frees nothing, and two that are refused.
+    let list = [reclaim(2), reclaim(1), reclaim(3), write(10, b'4')];
+    assert_eq!(placed(&mut store, &list), (vec![0, 8, 9, 0], "21CD3Feba4..".to_string()));
+}
+
+#[test]
+fn places_freed_in_another_batch() {
+    let mut store = six_pages(12);
+    assert_eq!(placed(&mut store, &[reclaim(1)]).1, "..CD.Feba...");
+    assert_eq!(placed(&mut store, &[write(7, b'0'), write(8, b'1')]).1, "01CD.Feba...");
+    // Nor does a revert take one.
+    assert_eq!(placed(&mut store, &[mark(), revert(1), write(7, b'4'), write(8, b'9')]).1, "01CD4Feba9..");
+}
+
+#[test]
+fn places_and_refusals_of_writes() {
+    // 5 takes no place: the write after the reclaim has the first freed one.
+    let mut store = made(20, 4, 4, 8);
+    let list = [write(0, b'A'), write(1, b'B'), mark(), write(1, b'b'), write(0, b'a'), write(2, b'x'), write(3, b'y')];
+    assert_eq!(placed(&mut store, &list), (vec![0, 0, 0, 0, 0, 5, 5], "ABba....".to_string()));
+    let list = [reclaim(1), write(4, b'0'), write(5, b'1'), write(6, b'x'), write(20, b'x')];
+    assert_eq!(placed(&mut store, &list), (vec![0, 0, 0, 5, 4], "01ba....".to_string()));
+    // 6 only where no place row is 0: with one free place in front, in the middle or at the end there is none.
+    for freed in 0..6 {
+        let mut store = made(20, 4, 30, 7);
+        let first: Vec<Vec<u8>> = (0..6).map(|address| write(address, b'A' + address as u8)).collect();
+        placed(&mut store, &first);
+        let list = [mark(), write(freed, b'g'), write(9, b'x'), reclaim(1), write(9, b'9'), write(10, b'x')];
+        let letter = |place| if place == freed { '9' } else { char::from(b'A' + place as u8) };
+        let due: String = (0..6).map(letter).collect();
+        assert_eq!(placed(&mut store, &list), (vec![0, 0, 6, 0, 0, 6], due + "g"));
+    }
+}
+
+#[test]
+fn slab_in_use_by_the_place_table() {
+    assert_eq!(slab_in_use(&[]), 0);
+    assert_eq!(slab_in_use(&[0, 0, 0, 0]), 0);
+    for row in [[1, 0, 0, 0], [0, 1, 0, 0], [0, 0, 1, 0], [0, 0, 0, 1]] {
+        assert_eq!(slab_in_use(&row), 256);
+        assert_eq!(slab_in_use(&[[0; 4], row, [0; 4]].concat()), 512);
+    }
+    assert_eq!(slab_in_use(&[0, 0, 0, 1, 0, 0, 0, 0, 9, 9, 9]), 256);
+    let mut store = six_pages(12);
+    assert_eq!(slab_in_use(&store.places), 9 * 256);
+    // Nothing is moved: what is in use ends where it did until the last places are free.
+    answers(&mut store, &[reclaim(1)]);
+    assert_eq!(slab_in_use(&store.places), 9 * 256);
+    answers(&mut store, &[mark(), write(0, b'A'), reclaim(2)]);
+    assert_eq!(slab_letters(&store), "A.CD.Feb....");
+    assert_eq!(slab_in_use(&store.places), 8 * 256);
+    // A copy up to there has every page, whatever lies behind.
+    let mut copy = store.clone();
+    copy.slab[8 * 256..].fill(0x99);
+    let reads: Vec<Vec<u8>> = (0..20).map(|address| read(address, 2)).collect();
+    assert_eq!(answers(&mut copy, &reads), answers(&mut store, &reads));
+}

@@ -2,7 +2,7 @@
 //! with what the reference says.
 
 use cases::{Counts, Host};
-use reference::{Areas, Report, ANSWER_BYTES, PAGE_ANSWER_BYTES};
+use reference::{slab_in_use, Areas, Report, ANSWER_BYTES, PAGE_ANSWER_BYTES};
 
 extern "C" {
     fn kizmoolet_fresh(
@@ -70,6 +70,10 @@ impl Lent {
         &self.bytes[MARGIN..MARGIN + self.length]
     }
 
+    fn lay(&mut self, front: &[u8]) {
+        self.bytes[MARGIN..MARGIN + front.len()].copy_from_slice(front);
+    }
+
     fn margins_hold(&self) -> bool {
         let after = MARGIN + self.length;
         let same = |at: usize| (0..MARGIN).all(|index| self.bytes[at + index] == margin_byte(index));
@@ -128,6 +132,16 @@ impl Host for RustHost {
         let list = [&areas.head, &areas.branches, &areas.records, &areas.places, &areas.slab];
         for (lent, area) in self.lent.iter_mut().zip(list) {
             lent.fill(area);
+        }
+    }
+
+    fn copy_onto(&mut self, onto: &Areas) {
+        let mut kept: Vec<Vec<u8>> = self.lent.iter().map(|lent| lent.contents().to_vec()).collect();
+        let in_use = slab_in_use(&kept[3]);
+        kept[4].truncate(in_use);
+        self.lend(onto);
+        for (lent, front) in self.lent.iter_mut().zip(&kept) {
+            lent.lay(front);
         }
     }
 
@@ -239,6 +253,10 @@ impl Host for RustHost {
         for number in 0..16 {
             self.seen[number] += counts.stops[number] + counts.refusals[number];
         }
+    }
+
+    fn note(&mut self, what: &str) {
+        println!("    {what}");
     }
 
     fn pile_differs(&mut self, what: &str) {

@@ -1,6 +1,7 @@
 use mathlib.Core.Path.{_≡_, refl, ap, _∙_}
 use mathlib.Core.List.{List, _++_}
 use Prim.Native.Nat.{ℕ, _-_, _<_}
+use native.Mathlib.Nat.{not-suc-le-zero}
 use native.Mathlib.Omega.{arith}
 use borrow.Author.Needs.{needs}
 use lib.ListN.{length, take, drop, length-drop}
@@ -12,22 +13,24 @@ use Rattle.rows.proofs.View.{SameLengths, laid-self, carried-store, carried-ans
 use Rattle.wire.specs.Answers.{Lies}
 use Rattle.wire.proofs.Sending.{outcome-sends}
 use Rattle.wire.specs.Requests.{requestOf}
+use Rattle.writing.specs.Free.{NoneBelow}
 use Rattle.batch.proofs.Laws.{Left, part-all, part-back, left-start, left-short, left-full-page, left-whole, left-taken, left-again, read-one, read-over}
 use Rattle.batch.proofs.Lent.{over-leaves}
 use Rattle.batch.proofs.run.Statement.{statement}
 use Rattle.batch.proofs.run.Tie as tie
 
 abbrev Inv-loop : tie.InvT-loop
-Inv-loop bt₀ rt₀ pt₀ slab₀ input answers₀ head₀ answered₀ at₀ out₀ bt rt pt slab answers head answered at out =
+Inv-loop bt₀ rt₀ pt₀ slab₀ input answers₀ head₀ answered₀ at₀ out₀ low₀ bt rt pt slab answers head answered at out low =
     (length bt ≡ length bt₀)
     × (length rt ≡ length rt₀)
     × (length pt ≡ length pt₀)
     × (length slab ≡ length slab₀)
     × Left (storeOf head₀ (tables bt₀ rt₀ pt₀ slab₀)) input answers₀ (storeOf head (tables bt rt pt slab)) answers answered at out
     × (tables bt rt pt slab ≡ laid (storeOf head (tables bt rt pt slab)) (tables bt₀ rt₀ pt₀ slab₀))
+    × NoneBelow low pt
 
 abbrev μ-loop : tie.MeasureT-loop
-μ-loop bt₀ rt₀ pt₀ slab₀ input answers₀ head₀ answered₀ at₀ out₀ bt rt pt slab answers head answered at out = length input - at
+μ-loop bt₀ rt₀ pt₀ slab₀ input answers₀ head₀ answered₀ at₀ out₀ low₀ bt rt pt slab answers head answered at out low = length input - at
 
 abbrev start-from-slice-known : tie.After-slice-known Inv-loop μ-loop → tie.Start Inv-loop μ-loop
 start-from-slice-known c = c .before
@@ -48,7 +51,7 @@ abbrev answer-size-from-slice-known10 : tie.After-slice-known10 Inv-loop μ-loop
 answer-size-from-slice-known10 c = answer-size-from-put-answer-arg2 (c .before .before .before)
 
 abbrev p-from-serve : tie.After-serve Inv-loop μ-loop → tie.After-p Inv-loop μ-loop
-p-from-serve c = p-from-serve-arg4 (c .before)
+p-from-serve c = p-from-serve-arg4 (c .before .before)
 
 abbrev loop-from-p : tie.After-p Inv-loop μ-loop → tie.At-loop Inv-loop μ-loop
 loop-from-p c = c .before .before .before .before
@@ -140,16 +143,16 @@ lengths : (c : tie.After-serve Inv-loop μ-loop) → SameLengths (lent c) (left 
 lengths c = record { branches = c .serve .kept .1 .0; records = c .serve .kept .1 .1 .0 }
 
 stored : (c : tie.After-serve Inv-loop μ-loop) → storeOf (c .serve .result .head) (left c) ≡ step (store-of c) (asked c) .store
-stored c = carried-store (c .serve .ensures) (lengths c)
+stored c = carried-store (c .serve .ensures .0) (lengths c)
 
 answers : (c : tie.After-serve Inv-loop μ-loop) → answerOf (c .serve .result) (left c .slab) ≡ step (store-of c) (asked c) .answer
-answers c = carried-answer (c .serve .ensures) (lengths c)
+answers c = carried-answer (c .serve .ensures .0) (lengths c)
 
 -- every number past the last whole rows is as it was when the batch began
 laid-still : (c : tie.After-serve Inv-loop μ-loop) → left c ≡ laid (storeOf (c .serve .result .head) (left c)) (start-tables c)
 laid-still c =
     let i = (loop-from-serve c) .loop .inv in
-    carried-laid (c .serve .ensures) (lengths c) {t₀ = start-tables c} (i .5) (record { branches = i .0; records = i .1 })
+    carried-laid (c .serve .ensures .0) (lengths c) {t₀ = start-tables c} (i .5) (record { branches = i .0; records = i .1 })
 
 sends : (c : tie.After-serve Inv-loop μ-loop) → (c .serve .result .refusal < 64) × Lies (foundOf (c .serve .result .found)) (c .serve .last .1 .1 .1 .1 .0)
 sends c = outcome-sends (c .serve .result) (c .serve .last .1 .1 .1 .1 .0) (store-of c) (asked c) ((loop-from-serve c) .loop .inv .4 .sound) (answers c)
@@ -167,6 +170,7 @@ loop-holds c =
       refl,
       left-start (storeOf (s .args .first) (at-start s)) (s .args .input .now) (s .args .answers .now) (s .pre),
       laid-self (s .args .first) (at-start s),
+      λ k l e. absurd (not-suc-le-zero l),
     )
 
 sub-part : tie.Need-sub-part Inv-loop μ-loop
@@ -239,7 +243,9 @@ returns-2 c =
     (over-leaves (l .inv .5) (left-short (l .inv .4) (read (c .before .before .before)) (omega (arith, c .before .if1 .taken, l .inv .4 .long))))
 
 serve-requires : tie.Need-serve-requires Inv-loop μ-loop
-serve-requires c κs = ((loop-from-serve-arg4 c) .loop .inv .4 .sound, left-whole ((loop-from-serve-arg4 c) .loop .inv .4) (read (p-from-serve-arg4 c)))
+serve-requires c κs =
+    let i = (loop-from-serve-arg4 (c .before)) .loop .inv in
+    ((i .4 .sound, left-whole (i .4) (read (p-from-serve-arg4 (c .before)))), i .6)
 
 answer-size-requires : tie.Need-answer-size-requires Inv-loop μ-loop
 answer-size-requires c κs = search needs
@@ -271,7 +277,7 @@ returns-3 c =
     let d = serve-from-report3 c in
     rw (c .report3 .ensures)
     (over-leaves (laid-still d)
-    (left-full-page (l .4) (read (p-from-serve d)) (omega (arith, d .before .before .before .before .before .if1 .left, l .4 .long)) (omega (arith, c .before .if2 .taken, sized (c .before .before), l .4 .long)) (stored d)))
+    (left-full-page (l .4) (read (p-from-serve d)) (omega (arith, d .before .before .before .before .before .before .if1 .left, l .4 .long)) (omega (arith, c .before .if2 .taken, sized (c .before .before), l .4 .long)) (stored d)))
 
 sub-put-answer : tie.Need-sub-put-answer Inv-loop μ-loop
 sub-put-answer c = search needs
@@ -320,6 +326,7 @@ loop-again c =
           (c .before .before .put-answer .ensures .1
           ∙ ap (λ (y : List ℕ). answerBytes (answerOf (d .serve .result) (d .serve .last .1 .1 .1 .1 .0)) ++ drop (length (answerBytes (answerOf (d .serve .result) (d .serve .last .1 .1 .1 .1 .0)))) y) (part-all (l .answers) (l .out)))),
       laid-still d,
+      d .serve .ensures .1,
     )
 
 pub run-spec : {M : Type 1} → statement M

@@ -1,5 +1,6 @@
 use mathlib.Core.Path.{_≡_}
 use Prim.Native.Nat.{_≤_}
+use native.Mathlib.Nat.{not-suc-le-zero}
 use denote.Ref.{now}
 use lib.ListN.{length, take, drop}
 use Rattle.rows.specs.View.{Tables, tables}
@@ -31,8 +32,8 @@ reclaim-from-slice-known11 c = reclaim-from-bt2 (c .before .before .before .befo
 abbrev shared-slice-known-from-write-arg : tie.After-write-arg → tie.After-shared-slice-known
 shared-slice-known-from-write-arg c = c .before .before .before .before
 
-abbrev shared-slice-known-from-write-arg4 : tie.After-write-arg4 → tie.After-shared-slice-known
-shared-slice-known-from-write-arg4 c = shared-slice-known-from-write-arg (c .before .before .before)
+abbrev shared-slice-known-from-write-arg4 : tie.After-write-arg5 → tie.After-shared-slice-known
+shared-slice-known-from-write-arg4 c = shared-slice-known-from-write-arg (c .before .before .before .before)
 
 abbrev start : tie.After-shared-slice-known → tie.Start
 start c = c .before .before .before .before .before
@@ -42,7 +43,7 @@ abbrev lent : tie.Start → Tables
 lent s = tables (now (s .args .bt)) (now (s .args .rt)) (now (s .args .pt)) (now (s .args .slab))
 
 -- the five arms, from what each call is made with, or leaves
-abbrev written-to : tie.After-write-arg4 → tie.After-shared-slice-known
+abbrev written-to : tie.After-write-arg5 → tie.After-shared-slice-known
 written-to c = (shared-slice-known-from-write-arg4 c)
 
 abbrev reclaimed-to : tie.After-reclaim-arg3 → tie.After-shared-slice-known
@@ -50,7 +51,7 @@ reclaimed-to c = (shared-slice-known-from-reclaim-arg3 c)
 
 -- a write's page is whole
 paged : (c : tie.After-q) → length (take 256 (drop 7 (now (start (c .before .before) .args .part)))) ≡ 256
-paged c = whole-page (now (start (c .before .before) .args .part)) _ _ (c .q .given .1) (start (c .before .before) .pre .1)
+paged c = whole-page (now (start (c .before .before) .args .part)) _ _ (c .q .given .1) (start (c .before .before) .pre .0 .1)
 
 enum-known-q : tie.Need-enum-known-q
 enum-known-q c = search needs
@@ -70,7 +71,7 @@ part-write-end c =
 write-requires : tie.Need-write-requires
 write-requires c κs =
     let s = start (written-to c) in
-    (sound-writable (s .args .head) (lent s) (s .pre .0), paged (c .before .before .before .before .before))
+    (sound-writable (s .args .head) (lent s) (s .pre .0 .0), (paged (c .before .before .before .before .before .before), s .pre .1))
 
 enum-told : tie.Need-enum-told
 enum-told c = search needs
@@ -84,7 +85,7 @@ enum-known-q-2 c = search needs
 revert-requires : tie.Need-revert-requires
 revert-requires c κs =
     let s = start (c .before .before .before .before) in
-    sound-revertible (s .args .head) (lent s) (s .pre .0)
+    sound-revertible (s .args .head) (lent s) (s .pre .0 .0)
 
 enum-known-q-3 : tie.Need-enum-known-q-3
 enum-known-q-3 c = search needs
@@ -92,7 +93,7 @@ enum-known-q-3 c = search needs
 read-requires : tie.Need-read-requires
 read-requires c κs =
     let s = start (c .before .before .before .before .before) in
-    sound-readable (s .args .head) (lent s) (s .pre .0)
+    sound-readable (s .args .head) (lent s) (s .pre .0 .0)
 
 enum-known-q-4 : tie.Need-enum-known-q-4
 enum-known-q-4 c = search needs
@@ -100,7 +101,7 @@ enum-known-q-4 c = search needs
 reclaim-requires : tie.Need-reclaim-requires
 reclaim-requires c κs =
     let s = start (reclaimed-to c) in
-    record { others = lent s; sound = s .pre .0 }
+    record { others = lent s; sound = s .pre .0 .0 }
 
 same-length : tie.Need-same-length
 same-length c = search needs
@@ -117,10 +118,12 @@ written c = (write-from-slice-known7 c)
 returns : tie.Need-returns
 returns c =
     let w = written c in
-    rw (w .before .before .before .before .before .before .q .given .1) (w .write .ensures (lent (start (written-to (w .before)))))
+    (rw (w .before .before .before .before .before .before .before .q .given .1) (w .write .ensures .0 (lent (start (written-to (w .before))))), w .write .ensures .1)
 
 returns-2 : tie.Need-returns-2
-returns-2 c = rw (c .before .enum-told .given .1) (c .mark .ensures (lent (start (c .before .before .before))))
+returns-2 c =
+    let s = start (c .before .before .before) in
+    (rw (c .before .enum-told .given .1) (c .mark .ensures (lent s)), s .pre .1)
 
 same-length-4 : tie.Need-same-length-4
 same-length-4 c = search needs
@@ -128,7 +131,8 @@ same-length-4 c = search needs
 returns-3 : tie.Need-returns-3
 returns-3 c =
     let q = c .before .before .before .before .before in
-    rw (q .q2 .given .1) (c .before .before .revert .ensures (lent (start (q .before .before))))
+    let s = start (q .before .before) in
+    (rw (q .q2 .given .1) (c .before .before .revert .ensures (lent s)), s .pre .1)
 
 same-length-5 : tie.Need-same-length-5
 same-length-5 c = search needs
@@ -139,7 +143,8 @@ same-length-6 c = search needs
 returns-4 : tie.Need-returns-4
 returns-4 c =
     let q = c .before .before .before .before in
-    rw (q .q3 .given .1) (c .read .ensures (lent (start (q .before .before))))
+    let s = start (q .before .before) in
+    (rw (q .q3 .given .1) (c .read .ensures (lent s)), s .pre .1)
 
 same-length-7 : tie.Need-same-length-7
 same-length-7 c = search needs
@@ -156,7 +161,7 @@ reclaimed c = (reclaim-from-slice-known11 c)
 returns-5 : tie.Need-returns-5
 returns-5 c =
     let w = reclaimed c in
-    rw (w .before .before .before .before .before .q4 .given .1) (w .reclaim .ensures (lent (start (reclaimed-to (w .before)))))
+    (rw (w .before .before .before .before .before .q4 .given .1) (w .reclaim .ensures (lent (start (reclaimed-to (w .before))))), λ k l e. absurd (not-suc-le-zero l))
 
 pub serve-spec : {M : Type 1} → statement M
 serve-spec =

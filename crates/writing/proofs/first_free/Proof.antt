@@ -5,18 +5,18 @@ use borrow.Author.Count.{below-more}
 use borrow.Author.Needs.{needs}
 use denote.Ref.{now}
 use lib.ListN.{length, getD}
-use Rattle.writing.proofs.Laws.{free-at, free-none}
+use Rattle.writing.proofs.Laws.{free-at, free-none, none-inside}
 use Rattle.writing.proofs.first_free.Statement.{statement}
 use Rattle.writing.proofs.first_free.Tie as tie
 
 abbrev Inv-loop : tie.InvT-loop
-Inv-loop pt i₀ i = (i ≤ length pt) × ((k : ℕ) → k < i → getD pt k 0 ≡ 0 → ⊥)
+Inv-loop pt from i₀ i = (i ≤ length pt) × ((k : ℕ) → k < i → getD pt k 0 ≡ 0 → ⊥)
 
 abbrev μ-loop : tie.MeasureT-loop
-μ-loop pt i₀ i = length pt - i
+μ-loop pt from i₀ i = length pt - i
 
 loop-holds : tie.Need-loop-holds Inv-loop μ-loop
-loop-holds c = (omega arith, λ k l e. omega (arith, l))
+loop-holds c = (none-inside (now (c .args .pt)) (c .args .from) (c .pre), c .pre)
 
 mul-if1 : tie.Need-mul-if1 Inv-loop μ-loop
 mul-if1 c = search needs

@@ -47,7 +47,7 @@ refused-requires c κs = search needs
 returns : tie.Need-returns
 returns c =
     let s = start-from-refused c in
-    λ t. write-refused (s .args .head) (lent s t) (s .args .a) (now (s .args .page)) (c .refused .result) (c .refused .ensures) (c .before .if1 .taken)
+    (λ t. write-refused (s .args .head) (lent s t) (s .args .a) (now (s .args .page)) (c .refused .result) (c .refused .ensures) (c .before .if1 .taken), s .pre .1 .1)
 
 cast-n : tie.Need-cast-n
 cast-n c = search needs
@@ -72,7 +72,7 @@ put-page-requires c κs =
     let rs = take (s .args .head .records) (recordRowsOf (now (s .args .rt))) in
     let q = d .found .given .0 .0 in
     let e : latest rs (s .args .a) (s .args .head .now) (s .args .head .now) ≡ some q = sym (g .standing .ensures .0) ∙ ap foundOf (d .found .given .1) in
-    omega (arith, s .pre .0 .placed q (latest→ rs (s .args .a) (s .args .head .now) (s .args .head .now) q e .0), s .pre .0 .room .places, s .pre .0 .room .pages, s .pre .1)
+    omega (arith, s .pre .0 .placed q (latest→ rs (s .args .a) (s .args .head .now) (s .args .head .now) q e .0), s .pre .0 .room .places, s .pre .0 .room .pages, s .pre .1 .0)
 
 accepted-requires : tie.Need-accepted-requires
 accepted-requires c κs = search needs
@@ -82,10 +82,10 @@ enum-told c = search needs
 
 write-new-requires : tie.Need-write-new-requires
 write-new-requires c κs =
-    let d = c .before .before .before in
+    let d = c .before .before .before .before in
     let g = d .before .before in
     let s = start-from-standing g in
-    (s .pre .0 .room, (s .pre .1, g .standing .ensures .1 (ap foundOf (d .enum-told .given .1))))
+    (s .pre .0 .room, ((s .pre .1 .0, g .standing .ensures .1 (ap foundOf (d .enum-told .given .1))), s .pre .1 .1))
 
 same-length : tie.Need-same-length
 same-length c = search needs
@@ -99,9 +99,11 @@ returns-2 c =
     let d = h .before .before .before .before in
     let g = d .before .before in
     let o = g .before .before .before .before .before in
-    let s = start-from-else1 o in
-    λ t. write-over (s .args .head) (lent s t) (s .args .a) (now (s .args .page)) (c .accepted .result) _ (d .found .given .0 .0) (c .accepted .ensures) (o .if1 .left)
-    (sym (g .standing .ensures .0) ∙ ap foundOf (d .found .given .1)) (h .put-page .ensures)
+    let s = start-from-else1 o in (
+      λ t. write-over (s .args .head) (lent s t) (s .args .a) (now (s .args .page)) (c .accepted .result) _ (d .found .given .0 .0) (c .accepted .ensures) (o .if1 .left)
+          (sym (g .standing .ensures .0) ∙ ap foundOf (d .found .given .1)) (h .put-page .ensures),
+      s .pre .1 .1,
+    )
 
 same-length-3 : tie.Need-same-length-3
 same-length-3 c = search needs
@@ -115,12 +117,14 @@ same-length-5 c = search needs
 returns-3 : tie.Need-returns-3
 returns-3 c =
     let w = write-new-from-slice-known7 c in
-    let d = w .before .before .before .before in
+    let d = w .before .before .before .before .before in
     let g = d .before .before in
     let o = g .before .before .before .before .before in
-    let s = start-from-else1 o in
-    λ t. write-else (s .args .head) (lent s t) (s .args .a) (now (s .args .page)) (w .write-new .result) (o .if1 .left)
-    (sym (g .standing .ensures .0) ∙ ap foundOf (d .enum-told .given .1)) (w .write-new .ensures t)
+    let s = start-from-else1 o in (
+      λ t. write-else (s .args .head) (lent s t) (s .args .a) (now (s .args .page)) (w .write-new .result) (o .if1 .left)
+          (sym (g .standing .ensures .0) ∙ ap foundOf (d .enum-told .given .1)) (w .write-new .ensures .0 t),
+      w .write-new .ensures .1,
+    )
 
 pub write-spec : {M : Type 1} → statement M
 write-spec =

@@ -1,5 +1,6 @@
 use Rattle.rows.specs.View.{Tables, withRecords, withPlaces, withSlab}
-use mathlib.Core.Path.{ap, sym, _∙_}
+use mathlib.Core.Path.{_≡_, ap, sym, _∙_}
+use mathlib.Core.Option.{none}
 use Rattle.rows.proofs.Laws.{record-count}
 use mathlib.Core.List.{List}
 use Prim.Native.Nat.{ℕ, _+_, _<_}
@@ -7,9 +8,10 @@ use Rattle.rows.specs.Rows.{recordRowsOf}
 use native.Mathlib.Omega.{arith}
 use denote.Ref.{now}
 use lib.ListN.{length, set, length-map}
-use Rattle.model.specs.Step.{shifted}
+use Rattle.model.specs.Step.{firstFree, shifted}
+use Rattle.model.proofs.Places.{firstFree-none}
 use Rattle.writing.specs.Free.{freeOf}
-use Rattle.writing.proofs.Laws.{Taking, taking-of, write-full, write-none, write-done}
+use Rattle.writing.proofs.Laws.{Taking, taking-of, none-taken, write-full, write-none, write-done}
 use borrow.Author.Needs.{needs}
 use Rattle.writing.proofs.write_new.Statement.{statement}
 use Rattle.writing.proofs.write_new.Tie as tie
@@ -37,7 +39,7 @@ abbrev known-told-from-put-page-arg : tie.After-put-page-arg → tie.After-known
 known-told-from-put-page-arg c = known-told-from-slice-known5 (c .before)
 
 abbrev start-from-first-free : tie.After-first-free → tie.Start
-start-from-first-free c = start-from-else1 (c .before .before)
+start-from-first-free c = start-from-else1 (c .before .before .before)
 
 abbrev start-from-known-told : tie.After-known-told → tie.Start
 start-from-known-told c = start-from-first-free (c .before .before .before)
@@ -62,7 +64,7 @@ taking : (c : tie.After-known-told) → Taking ((start-from-known-told c) .args 
 taking c =
     let g = c .before .before .before in
     let s = start-from-first-free g in
-    taking-of (s .args .head) (now (s .args .rt)) (now (s .args .pt)) (s .args .a) (s .args .at) (c .before .free .given .0 .0) (g .first-free .result) (c .before .free .given .1) (g .first-free .ensures) (s .pre .1 .1) (room (g .before .before))
+    taking-of (s .args .head) (now (s .args .rt)) (now (s .args .pt)) (s .args .a) (s .args .at) (c .before .free .given .0 .0) (g .first-free .result) (c .before .free .given .1) (g .first-free .ensures) (s .pre .1 .0 .1) (room (g .before .before .before))
 
 refused-requires : tie.Need-refused-requires
 refused-requires c κs = search needs
@@ -73,7 +75,7 @@ same-length c = search needs
 returns : tie.Need-returns
 returns c =
     let s = start-from-refused c in
-    λ t. write-full (s .args .head) (lent s t) (s .args .a) (now (s .args .page)) (c .refused .result) (c .refused .ensures) (omega (arith, c .before .if1 .taken, c .before .before .record-rows .ensures))
+    (λ t. write-full (s .args .head) (lent s t) (s .args .a) (now (s .args .page)) (c .refused .result) (c .refused .ensures) (omega (arith, c .before .if1 .taken, c .before .before .record-rows .ensures)), s .pre .1 .1)
 
 first-free-requires : tie.Need-first-free-requires
 first-free-requires c κs = search needs
@@ -97,7 +99,8 @@ returns-2 : tie.Need-returns-2
 returns-2 c =
     let g = c .before .before .before in
     let s = start-from-first-free g in
-    λ t. write-none (s .args .head) (lent s t) (s .args .a) (now (s .args .page)) (c .refused2 .result) (room (g .before .before)) (c .refused2 .ensures) (sym (g .first-free .ensures) ∙ ap freeOf (c .before .enum-told .given .1))
+    let f : firstFree (now (s .args .pt)) ≡ none = sym (g .first-free .ensures) ∙ ap freeOf (c .before .enum-told .given .1) in
+    (λ t. write-none (s .args .head) (lent s t) (s .args .a) (now (s .args .page)) (c .refused2 .result) (room (g .before .before .before)) (c .refused2 .ensures) f, firstFree-none (now (s .args .pt)) f)
 
 cast-row : tie.Need-cast-row
 cast-row c =
@@ -107,7 +110,7 @@ cast-row c =
 cast-pt : tie.Need-cast-pt
 cast-pt c =
     let s = start-from-known-told c in
-    omega (arith, taking c .inside, s .pre .0 .places)
+    omega (arith, taking c .smallest .inside, s .pre .0 .places)
 
 insert-row-requires : tie.Need-insert-row-requires
 insert-row-requires c κs =
@@ -130,22 +133,30 @@ mul-pt : tie.Need-mul-pt
 mul-pt c =
     let k = known-told-from-slice-known5 c in
     let s = start-from-known-told k in
-    omega (arith, taking k .inside, s .pre .0 .places)
+    omega (arith, taking k .smallest .inside, s .pre .0 .places)
 
 slice-write-pt : tie.Need-slice-write-pt
 slice-write-pt c =
     let k = known-told-from-slice-known5 c in
     let s = start-from-known-told k in
-    omega (arith, taking k .inside, ap length (c .before .before .shift-places .ensures), length-map (now (s .args .pt)) (shifted (s .args .at)))
+    omega (arith, taking k .smallest .inside, ap length (c .before .before .shift-places .ensures), length-map (now (s .args .pt)) (shifted (s .args .at)))
+
+add-low : tie.Need-add-low
+add-low c =
+    let k = known-told-from-slice-known5 c in
+    let s = start-from-known-told k in
+    omega (arith, taking k .smallest .inside, s .pre .0 .places)
 
 put-page-requires : tie.Need-put-page-requires
 put-page-requires c κs =
     let k = known-told-from-put-page-arg c in
     let s = start-from-known-told k in
-    omega (arith, taking k .inside, s .pre .0 .places, s .pre .0 .pages, s .pre .1 .0)
+    omega (arith, taking k .smallest .inside, s .pre .0 .places, s .pre .0 .pages, s .pre .1 .0 .0)
 
-add-t21 : tie.Need-add-t21
-add-t21 c = search needs
+add-t23 : tie.Need-add-t23
+add-t23 c =
+    let k = known-told-from-put-page-arg (c .before .before .before .before) in
+    omega (arith, (start-from-known-told k) .pre .0)
 
 accepted-requires : tie.Need-accepted-requires
 accepted-requires c κs = search needs
@@ -167,8 +178,11 @@ returns-3 c =
     let k = i .before .before in
     let s = start-from-known-told k in
     let p = k .before .free .given .0 .0 in
-    λ t. write-done (s .args .head) (lent s t) (s .args .a) (now (s .args .page)) (c .accepted .result) (taking k .more) _ _ _ p (s .args .at) (c .accepted .ensures) (taking k .free) (s .pre .1 .1)
-    (i .insert-row .ensures) (i .insert-row .kept .0) (ap (λ (y : List ℕ). set y p (s .args .at + 1)) (h .shift-places .ensures)) (g .put-page .ensures)
+    let v = ap (λ (y : List ℕ). set y p (s .args .at + 1)) (h .shift-places .ensures) in (
+      λ t. write-done (s .args .head) (lent s t) (s .args .a) (now (s .args .page)) (c .accepted .result) (taking k .more) _ _ _ p (s .args .at) (c .accepted .ensures) (taking k .free) (s .pre .1 .0 .1)
+          (i .insert-row .ensures) (i .insert-row .kept .0) v (g .put-page .ensures),
+      rw v (none-taken (now (s .args .pt)) (s .args .at) p (taking k .smallest)),
+    )
 
 pub write-new-spec : {M : Type 1} → statement M
 write-new-spec =
@@ -193,8 +207,9 @@ write-new-spec =
     add-pt
     mul-pt
     slice-write-pt
+    add-low
     put-page-requires
-    add-t21
+    add-t23
     accepted-requires
     same-length-4
     same-length-5
