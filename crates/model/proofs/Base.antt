@@ -3,7 +3,7 @@ use Prim.Native.Nat.{ℕ, zero, suc, _≤_, _<_}
 use mathlib.Core.Path.{_≡_, refl, sym, ap, _∙_}
 use mathlib.Core.Logic.{_⊎_, inl, inr}
 use mathlib.Core.List.{List, [], _∷_, _++_, map, reverse, reverseAux}
-use mathlib.Core.Bool.{Bool, true, false, _&&_, _||_, and-eq-true-iff, false≢true}
+use mathlib.Core.Bool.{Bool, true, false, cond, _&&_, _||_, and-eq-true-iff, false≢true}
 use native.Mathlib.Omega.{arith}
 use lib.Dec.{eqb}
 use lib.ListN.{length, getD, set, take, drop, replicate, take-append-drop}
@@ -14,6 +14,11 @@ use Rattle.model.specs.Lookup.{anyUpTo, isReadable, someReadable}
 pub case : {C : Type 0} (b : Bool) → (b ≡ true → C) → (b ≡ false → C) → C
 case true f g = f refl
 case false f g = g refl
+
+-- what holds of both sides of a test
+pub both : {A : Type 0} (P : A → Type 0) (b : Bool) {x y : A} → P x → P y → P (cond b x y)
+both P true f g = f
+both P false f g = g
 
 pub and→ : (a b : Bool) → (a && b) ≡ true → (a ≡ true) × (b ≡ true)
 and→ a b = and-eq-true-iff a b .0

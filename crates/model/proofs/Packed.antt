@@ -4,7 +4,6 @@ use mathlib.Core.Path.{_≡_, refl, sym, ap, _∙_}
 use mathlib.Core.Logic.{_⊎_, inl, inr}
 use mathlib.Core.List.{List, [], _∷_, map}
 use mathlib.Core.Option.{some, none}
-use mathlib.Core.Bool.{Bool, cond}
 use native.Mathlib.Nat.{le-of-suc-le-suc}
 use native.Mathlib.Omega.{arith}
 use lib.Dec.{leb, ltb}
@@ -20,7 +19,7 @@ use Rattle.model.specs.Reference.{Reference, feed}
 use Rattle.model.specs.Demand3.{refuses}
 use Rattle.model.specs.ByNumber.{Sizes, Sound, Whole}
 use Rattle.model.specs.Packed.{SmallestFree, PutIn, Packs, TakesSmallest, reach}
-use Rattle.model.proofs.Base.{case, mem-keep}
+use Rattle.model.proofs.Base.{case, both, mem-keep}
 use Rattle.model.proofs.Latest.{caseOption}
 use Rattle.model.proofs.Places.{firstFree→, firstFree-none, firstFree-used, shifted-low}
 use Rattle.model.proofs.Invariant.{Inv}
@@ -83,16 +82,13 @@ taken-reach ps at p n h l =
 abbrev Bounded : ℕ → Store → Stepped → Type 0
 Bounded n s st = reach (s .placeRows) ≤ n → st .store .head .records ≤ n → reach (st .store .placeRows) ≤ n
 
-if-bounded : (n : ℕ) (s : Store) (b : Bool) (x y : Stepped) → Bounded n s x → Bounded n s y → Bounded n s (cond b x y)
-if-bounded n s b x y f g = case b (λ e. rw e f) (λ e. rw e g)
-
 write-bounded : (n : ℕ) (s : Store) (a : ℕ) (page : List ℕ) → Sound s → Bounded n s (doWrite s a page)
 unfolding doWrite inserted
 write-bounded n s a page h =
-    if-bounded n s (ltb a (s .head .size)) _ _
+    both (Bounded n s) (ltb a (s .head .size))
     (caseOption (standing s a)
     (λ e. rw e
-    (if-bounded n s (ltb (s .head .records) (length (s .recordRows))) _ _
+    (both (Bounded n s) (ltb (s .head .records) (length (s .recordRows)))
     (caseOption (firstFree (s .placeRows))
     (λ f. rw f (λ l m. l))
     (λ p f. rw f (λ l m. taken-reach (s .placeRows) _ p n (omega (arith, firstFree-used (s .placeRows) p f, h .in-use)) l)))
@@ -103,17 +99,17 @@ write-bounded n s a page h =
 step-bounded : (n : ℕ) (s : Store) (q : Request) → Sound s → Bounded n s (step s q)
 unfolding step doMark doRevert branched doReclaim reclaimed
 step-bounded n s (write a page) h = write-bounded n s a page h
-step-bounded n s mark h = if-bounded n s (ltb (s .head .now) open-end) _ _ (λ l m. l) (λ l m. l)
+step-bounded n s mark h = both (Bounded n s) (ltb (s .head .now) open-end) (λ l m. l) (λ l m. l)
 step-bounded n s (revert m) h =
-    if-bounded n s (readable s m) _ _
-    (if-bounded n s (leb (s .head .now) m) _ _ (λ l k. l)
-    (if-bounded n s (leb open-end (s .head .now)) _ _ (λ l k. l)
-    (if-bounded n s (leb (length (s .branchRows)) (s .head .branches)) _ _ (λ l k. l) (λ l k. l))))
+    both (Bounded n s) (readable s m)
+    (both (Bounded n s) (leb (s .head .now) m) (λ l k. l)
+    (both (Bounded n s) (leb open-end (s .head .now)) (λ l k. l)
+    (both (Bounded n s) (leb (length (s .branchRows)) (s .head .branches)) (λ l k. l) (λ l k. l))))
     (λ l k. l)
 step-bounded n s (readAt a m) h = rw (read-leaves s a m) (λ l k. l)
 step-bounded n s (reclaim m) h =
-    if-bounded n s (ltb m (s .head .floor)) _ _ (λ l k. l)
-    (if-bounded n s (ltb (s .head .now) m) _ _ (λ l k. l) (λ l k. map-reach _ (s .placeRows) n refl l))
+    both (Bounded n s) (ltb m (s .head .floor)) (λ l k. l)
+    (both (Bounded n s) (ltb (s .head .now) m) (λ l k. l) (λ l k. map-reach _ (s .placeRows) n refl l))
 
 -- as many pairs are held as records are counted
 held-counted : (s : Store) (p : Reference) → Inv s p → length (p .held) ≡ s .head .records
@@ -127,9 +123,6 @@ step-reach n s p q v w l m =
 -- the records after a request
 still : (s : Store) (q : Request) (st : Stepped) → records (st .store) ≡ records s → (st .answer .refusal ≡ 6 → ⊥) → Packs s q st
 still s q st e ne = record { placed = λ r m. inl (rw e at m); full = λ d. absurd (ne d) }
-
-if-packs : (s : Store) (q : Request) (b : Bool) (x y : Stepped) → Packs s q x → Packs s q y → Packs s q (cond b x y)
-if-packs s q b x y f g = case b (λ e. rw e f) (λ e. rw e g)
 
 free-packs : (s : Store) (a : ℕ) (page : List ℕ) → Sound s → Packs s (write a page) (intoFree s a page (firstFree (s .placeRows)))
 free-packs s a page h =
@@ -152,9 +145,9 @@ free-packs s a page h =
 write-packs : (s : Store) (a : ℕ) (page : List ℕ) → Sound s → Packs s (write a page) (doWrite s a page)
 unfolding doWrite records
 write-packs s a page h =
-    if-packs s q (ltb a (s .head .size)) _ _
+    both (Packs s q) (ltb a (s .head .size))
     (caseOption (standing s a)
-    (λ e. rw e (if-packs s q (ltb (s .head .records) (length (s .recordRows))) _ _ (free-packs s a page h) (still s q _ refl (λ d. omega (arith, d)))))
+    (λ e. rw e (both (Packs s q) (ltb (s .head .records) (length (s .recordRows))) (free-packs s a page h) (still s q _ refl (λ d. omega (arith, d)))))
     (λ r e. rw e (still s q _ refl (λ d. omega (arith, d)))))
     (still s q _ refl (λ d. omega (arith, d)))
   where
@@ -164,23 +157,23 @@ write-packs s a page h =
 step-packs : (s : Store) (q : Request) → Sound s → Packs s q (step s q)
 unfolding step doMark doRevert branched doRead doReclaim records
 step-packs s (write a page) h = write-packs s a page h
-step-packs s mark h = if-packs s mark (ltb (s .head .now) open-end) _ _ (still s mark _ refl (λ d. omega (arith, d))) (still s mark _ refl (λ d. omega (arith, d)))
+step-packs s mark h = both (Packs s mark) (ltb (s .head .now) open-end) (still s mark _ refl (λ d. omega (arith, d))) (still s mark _ refl (λ d. omega (arith, d)))
 step-packs s (revert m) h =
-    if-packs s (revert m) (readable s m) _ _
-    (if-packs s (revert m) (leb (s .head .now) m) _ _ (still s (revert m) _ refl (λ d. omega (arith, d)))
-    (if-packs s (revert m) (leb open-end (s .head .now)) _ _ (still s (revert m) _ refl (λ d. omega (arith, d)))
-    (if-packs s (revert m) (leb (length (s .branchRows)) (s .head .branches)) _ _ (still s (revert m) _ refl (λ d. omega (arith, d)))
+    both (Packs s (revert m)) (readable s m)
+    (both (Packs s (revert m)) (leb (s .head .now) m) (still s (revert m) _ refl (λ d. omega (arith, d)))
+    (both (Packs s (revert m)) (leb open-end (s .head .now)) (still s (revert m) _ refl (λ d. omega (arith, d)))
+    (both (Packs s (revert m)) (leb (length (s .branchRows)) (s .head .branches)) (still s (revert m) _ refl (λ d. omega (arith, d)))
     (still s (revert m) _ refl (λ d. omega (arith, d))))))
     (still s (revert m) _ refl (λ d. omega (arith, d)))
 step-packs s (readAt a m) h =
-    if-packs s (readAt a m) (ltb a (s .head .size)) _ _
-    (if-packs s (readAt a m) (readable s m) _ _
-    (if-packs s (readAt a m) (ltb (s .head .now) m) _ _ (still s (readAt a m) _ refl (λ d. omega (arith, d))) (still s (readAt a m) _ refl (λ d. omega (arith, d))))
+    both (Packs s (readAt a m)) (ltb a (s .head .size))
+    (both (Packs s (readAt a m)) (readable s m)
+    (both (Packs s (readAt a m)) (ltb (s .head .now) m) (still s (readAt a m) _ refl (λ d. omega (arith, d))) (still s (readAt a m) _ refl (λ d. omega (arith, d))))
     (still s (readAt a m) _ refl (λ d. omega (arith, d))))
     (still s (readAt a m) _ refl (λ d. omega (arith, d)))
 step-packs s (reclaim m) h =
-    if-packs s (reclaim m) (ltb m (s .head .floor)) _ _ (still s (reclaim m) _ refl (λ d. omega (arith, d)))
-    (if-packs s (reclaim m) (ltb (s .head .now) m) _ _ (still s (reclaim m) _ refl (λ d. omega (arith, d)))
+    both (Packs s (reclaim m)) (ltb m (s .head .floor)) (still s (reclaim m) _ refl (λ d. omega (arith, d)))
+    (both (Packs s (reclaim m)) (ltb (s .head .now) m) (still s (reclaim m) _ refl (λ d. omega (arith, d)))
     (record {
       placed = λ r k. inl (mem-keep (isGiven s m) r (records s) (rw (reclaimed-records s m (keep (isAncestor s m) (branches s)) (keep (isGiven s m) (records s))) at k) .0);
       full = λ d. absurd (omega (arith, d));

@@ -2,7 +2,6 @@
 use Prim.Native.Nat.{ℕ, _≤_, _<_}
 use mathlib.Core.List.{List}
 use mathlib.Core.Option.{Option, some, none}
-use mathlib.Core.Bool.{Bool, cond}
 use native.Mathlib.Omega.{arith}
 use lib.Dec.{leb, ltb}
 use lib.ListN.{length}
@@ -14,7 +13,7 @@ use Rattle.model.specs.Soundness.{tableCheck}
 use Rattle.model.specs.Wire.{Request, write, mark, revert, readAt, reclaim, accepted}
 use Rattle.model.specs.Step.{Stepped, unchanged, standing, firstFree, intoFree, written, doWrite, doMark, doRevert, doRead, doReclaim, step}
 use Rattle.model.specs.Reference.{Snapshot, Reference}
-use Rattle.model.proofs.Base.{case}
+use Rattle.model.proofs.Base.{both}
 use Rattle.model.proofs.Ancestry.{Found, find→}
 use Rattle.model.proofs.Places.{named-mem}
 use Rattle.model.proofs.Pages.{length-page}
@@ -63,13 +62,10 @@ refused-answers s n l = record { small = l; leaves = λ e. refl; whole = tt; dat
 accepted-answers : (s u : Store) (n : ℕ) → Answers s (record { store = u; answer = accepted n })
 accepted-answers s u n = record { small = omega arith; leaves = λ e. absurd (e refl); whole = tt; dated = tt }
 
-if-answers : (s : Store) (b : Bool) (x y : Stepped) → Answers s x → Answers s y → Answers s (cond b x y)
-if-answers s b x y f g = case b (λ e. rw e f) (λ e. rw e g)
-
 written-answers : (s : Store) (a : ℕ) (page : List ℕ) (o : Option Record) → Answers s (written s a page o)
 written-answers s a page (some r) = accepted-answers s _ _
 written-answers s a page none =
-    if-answers s (ltb (s .head .records) (length (s .recordRows))) _ _ (free-answers (firstFree (s .placeRows))) (refused-answers s 5 (omega arith))
+    both (Answers s) (ltb (s .head .records) (length (s .recordRows))) (free-answers (firstFree (s .placeRows))) (refused-answers s 5 (omega arith))
   where
     free-answers : (o : Option ℕ) → Answers s (intoFree s a page o)
     free-answers none = refused-answers s 6 (omega arith)
@@ -88,25 +84,25 @@ found-page s h a t (some r) e =
 
 pub step-answers : (s : Store) (q : Request) → Sound s → Answers s (step s q)
 unfolding step doWrite doMark doRevert doRead doReclaim
-step-answers s (write a page) h = if-answers s (ltb a (s .head .size)) _ _ (written-answers s a page (standing s a)) (refused-answers s 4 (omega arith))
-step-answers s mark h = if-answers s (ltb (s .head .now) open-end) _ _ (accepted-answers s _ _) (refused-answers s 10 (omega arith))
+step-answers s (write a page) h = both (Answers s) (ltb a (s .head .size)) (written-answers s a page (standing s a)) (refused-answers s 4 (omega arith))
+step-answers s mark h = both (Answers s) (ltb (s .head .now) open-end) (accepted-answers s _ _) (refused-answers s 10 (omega arith))
 step-answers s (revert m) h =
-    if-answers s (readable s m) _ _
-    (if-answers s (leb (s .head .now) m) _ _ (refused-answers s 9 (omega arith))
-    (if-answers s (leb open-end (s .head .now)) _ _ (refused-answers s 10 (omega arith))
-    (if-answers s (leb (length (s .branchRows)) (s .head .branches)) _ _ (refused-answers s 7 (omega arith)) (accepted-answers s _ _))))
+    both (Answers s) (readable s m)
+    (both (Answers s) (leb (s .head .now) m) (refused-answers s 9 (omega arith))
+    (both (Answers s) (leb open-end (s .head .now)) (refused-answers s 10 (omega arith))
+    (both (Answers s) (leb (length (s .branchRows)) (s .head .branches)) (refused-answers s 7 (omega arith)) (accepted-answers s _ _))))
     (refused-answers s 8 (omega arith))
 step-answers s (readAt a m) h =
-    if-answers s (ltb a (s .head .size)) _ _
-    (if-answers s (readable s m) _ _
-    (if-answers s (ltb (s .head .now) m) _ _ (refused-answers s 9 (omega arith))
+    both (Answers s) (ltb a (s .head .size))
+    (both (Answers s) (readable s m)
+    (both (Answers s) (ltb (s .head .now) m) (refused-answers s 9 (omega arith))
     (let f = found-page s h a m (lookup s a m) refl in
     record { small = omega arith; leaves = λ e. refl; whole = f .0; dated = f .1 }))
     (refused-answers s 8 (omega arith)))
     (refused-answers s 4 (omega arith))
 step-answers s (reclaim m) h =
-    if-answers s (ltb m (s .head .floor)) _ _ (refused-answers s 8 (omega arith))
-    (if-answers s (ltb (s .head .now) m) _ _ (refused-answers s 9 (omega arith)) (accepted-answers s _ _))
+    both (Answers s) (ltb m (s .head .floor)) (refused-answers s 8 (omega arith))
+    (both (Answers s) (ltb (s .head .now) m) (refused-answers s 9 (omega arith)) (accepted-answers s _ _))
 
 dated-later : (t u : ℕ) (o : Option Page) → t ≤ u → DatedUpTo t o → DatedUpTo u o
 dated-later t u none l h = tt

@@ -35,13 +35,17 @@ pub(crate) fn free_all(w: &mut Numbers)
     put_four(w, PLACES + 12, 0, 0, 0, 0);
 }
 
-fn begin_at(w: &mut Numbers, p: u32) {
+fn begin_at(w: &mut Numbers, p: u32)
+    ensures { λ _. ⌜ length (now (w .exit)) ≡ length (now (w .entry)) ⌝ }
+{
     let used = get(w, place_at(p)) % 2;
     put(w, place_at(p), used * 3);
 }
 
 // A batch begins.
-pub fn begin_batch(w: &mut Numbers) {
+pub fn begin_batch(w: &mut Numbers)
+    ensures { λ _. ⌜ length (now (w .exit)) ≡ length (now (w .entry)) ⌝ }
+{
     for p in 0..16u32 {
         begin_at(w, p);
     }

@@ -41,8 +41,14 @@ start-from-slice-known5 c = start-from-slice-known (c .before .before .before .b
 abbrev p-from-serve-arg : tie.After-serve-arg Inv-loop μ-loop → tie.After-p Inv-loop μ-loop
 p-from-serve-arg c = c .before .before .before
 
+abbrev serve-arg-from-serve-arg4 : tie.After-serve-arg4 Inv-loop μ-loop → tie.After-serve-arg Inv-loop μ-loop
+serve-arg-from-serve-arg4 c = c .before .before .before
+
+abbrev else1-from-serve : tie.After-serve Inv-loop μ-loop → tie.Else1 Inv-loop μ-loop
+else1-from-serve c = (serve-arg-from-serve-arg4 (c .before .before)) .before
+
 abbrev p-from-serve-arg4 : tie.After-serve-arg4 Inv-loop μ-loop → tie.After-p Inv-loop μ-loop
-p-from-serve-arg4 c = p-from-serve-arg (c .before .before .before)
+p-from-serve-arg4 c = p-from-serve-arg (serve-arg-from-serve-arg4 c)
 
 abbrev answer-size-from-put-answer-arg2 : tie.After-put-answer-arg2 Inv-loop μ-loop → tie.After-answer-size Inv-loop μ-loop
 answer-size-from-put-answer-arg2 c = c .before .before .before
@@ -277,7 +283,7 @@ returns-3 c =
     let d = serve-from-report3 c in
     rw (c .report3 .ensures)
     (over-leaves (laid-still d)
-    (left-full-page (l .4) (read (p-from-serve d)) (omega (arith, d .before .before .before .before .before .before .if1 .left, l .4 .long)) (omega (arith, c .before .if2 .taken, sized (c .before .before), l .4 .long)) (stored d)))
+    (left-full-page (l .4) (read (p-from-serve d)) (omega (arith, (else1-from-serve d) .if1 .left, l .4 .long)) (omega (arith, c .before .if2 .taken, sized (c .before .before), l .4 .long)) (stored d)))
 
 sub-put-answer : tie.Need-sub-put-answer Inv-loop μ-loop
 sub-put-answer c = search needs

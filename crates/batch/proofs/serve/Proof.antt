@@ -32,8 +32,14 @@ reclaim-from-slice-known11 c = reclaim-from-bt2 (c .before .before .before .befo
 abbrev shared-slice-known-from-write-arg : tie.After-write-arg → tie.After-shared-slice-known
 shared-slice-known-from-write-arg c = c .before .before .before .before
 
+abbrev write-arg-from-write-arg5 : tie.After-write-arg5 → tie.After-write-arg
+write-arg-from-write-arg5 c = c .before .before .before .before
+
+abbrev q-from-write-arg5 : tie.After-write-arg5 → tie.After-q
+q-from-write-arg5 c = (write-arg-from-write-arg5 c) .before .before
+
 abbrev shared-slice-known-from-write-arg4 : tie.After-write-arg5 → tie.After-shared-slice-known
-shared-slice-known-from-write-arg4 c = shared-slice-known-from-write-arg (c .before .before .before .before)
+shared-slice-known-from-write-arg4 c = shared-slice-known-from-write-arg (write-arg-from-write-arg5 c)
 
 abbrev start : tie.After-shared-slice-known → tie.Start
 start c = c .before .before .before .before .before
@@ -71,7 +77,7 @@ part-write-end c =
 write-requires : tie.Need-write-requires
 write-requires c κs =
     let s = start (written-to c) in
-    (sound-writable (s .args .head) (lent s) (s .pre .0 .0), (paged (c .before .before .before .before .before .before), s .pre .1))
+    (sound-writable (s .args .head) (lent s) (s .pre .0 .0), (paged (q-from-write-arg5 c), s .pre .1))
 
 enum-told : tie.Need-enum-told
 enum-told c = search needs
@@ -118,7 +124,7 @@ written c = (write-from-slice-known7 c)
 returns : tie.Need-returns
 returns c =
     let w = written c in
-    (rw (w .before .before .before .before .before .before .before .q .given .1) (w .write .ensures .0 (lent (start (written-to (w .before))))), w .write .ensures .1)
+    (rw ((q-from-write-arg5 (w .before)) .q .given .1) (w .write .ensures .0 (lent (start (written-to (w .before))))), w .write .ensures .1)
 
 returns-2 : tie.Need-returns-2
 returns-2 c =
