@@ -31,7 +31,17 @@ fn record_bytes() -> [u8; 65536]
 }
 
 // The marks of n branches and of nr records: by the moments that decide, which are listed once.
-fn mark_all(bt: &[u32], n: usize, rt: &[u32], nr: usize, nt: &[u32], k: usize, floor: u32, bm: &mut [u8], rm: &mut [u8])
+fn mark_all(
+    bt: &[u32],
+    n: usize,
+    rt: &[u32],
+    nr: usize,
+    nt: &[u32],
+    k: usize,
+    floor: u32,
+    bm: &mut [u8],
+    rm: &mut [u8],
+)
     requires { ⌜ BranchesIn n (now bt) × (n ≤ 4096) × (0 < n) × RecordsIn nr (now rt) × NamesIn k (now nt) × (k ≤ 32) × (n ≤ length (now bm)) × (nr ≤ length (now rm)) ⌝ }
     requires { ⌜ Line (branchRowsOf (now bt)) n ⌝ }
     requires { ⌜ held (branchRowsOf (now bt)) n floor ≡ true ⌝ }
@@ -53,7 +63,14 @@ fn mark_all(bt: &[u32], n: usize, rt: &[u32], nr: usize, nt: &[u32], k: usize, f
 }
 
 // Request 5, with refusals 8 and 9 in this order. The answer is the number of records freed.
-pub fn reclaim(head: Head, bt: &mut [u32], rt: &mut [u32], pt: &mut [u32], nt: &[u32], floor: u32) -> Outcome
+pub fn reclaim(
+    head: Head,
+    bt: &mut [u32],
+    rt: &mut [u32],
+    pt: &mut [u32],
+    nt: &[u32],
+    floor: u32,
+) -> Outcome
     requires { ⌜ Reclaimable head (now bt) (now rt) (now pt) (now nt) ⌝ }
     ensures { λ r. ⌜ ((t : Tables) → Carried head (withPlaces (now (pt .entry)) (withRecords (now (rt .entry)) (withBranches (now (bt .entry)) (withNames (now (nt .entry)) t)))) (reclaim floor) r (withPlaces (now (pt .exit)) (withRecords (now (rt .exit)) (withBranches (now (bt .exit)) (withNames (now (nt .entry)) t))))) ⌝ }
 {

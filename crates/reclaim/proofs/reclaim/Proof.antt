@@ -6,23 +6,17 @@ use borrow.Author.Needs.{needs}
 use Rattle.reclaim.proofs.reclaim.Statement.{statement}
 use Rattle.reclaim.proofs.reclaim.Tie as tie
 
-abbrev start-from-slice-known : tie.After-slice-known → tie.Start
-start-from-slice-known c = c .before
+abbrev start-from-struct-known : tie.After-struct-known → tie.Start
+start-from-struct-known c = c .before .before .before .before .before
 
 abbrev start-from-refused : tie.After-refused → tie.Start
-start-from-refused c = start-from-slice-known (c .before .before .before .before .before .before)
-
-abbrev start-from-slice-known2 : tie.After-slice-known2 → tie.Start
-start-from-slice-known2 c = c .before .before
+start-from-refused c = start-from-struct-known (c .before .before)
 
 abbrev start-from-else2 : tie.Else2 → tie.Start
-start-from-else2 c = start-from-slice-known2 (c .before .before .before .before .before .before)
-
-abbrev start-from-slice-known3 : tie.After-slice-known3 → tie.Start
-start-from-slice-known3 c = c .before .before .before
+start-from-else2 c = start-from-struct-known (c .before .before .before)
 
 abbrev start-from-refused2 : tie.After-refused2 → tie.Start
-start-from-refused2 c = start-from-slice-known3 (c .before .before .before .before .before .before)
+start-from-refused2 c = start-from-struct-known (c .before .before .before .before)
 
 abbrev else2-from-branch-bytes : tie.After-branch-bytes → tie.Else2
 else2-from-branch-bytes c = c .before .before .before .before
@@ -81,11 +75,8 @@ else2-from-bm3 c = else2-from-rt (c .before .before .before .before .before)
 abbrev else2-from-slice-known6 : tie.After-slice-known6 → tie.Else2
 else2-from-slice-known6 c = else2-from-bm3 (c .before .before .before)
 
-abbrev else1-from-struct-known2 : tie.After-struct-known2 → tie.Else1
-else1-from-struct-known2 c = c .before
-
 abbrev else1-from-record-bytes : tie.After-record-bytes → tie.Else1
-else1-from-record-bytes c = else1-from-struct-known2 (c .before .before .before .before .before .before)
+else1-from-record-bytes c = (else2-from-branch-bytes (c .before)) .before .before
 
 abbrev else1-from-mark-all : tie.After-mark-all → tie.Else1
 else1-from-mark-all c = else1-from-record-bytes (c .before .before .before .before .before)
