@@ -23,7 +23,15 @@ use Rattle.model.proofs.ByNumber.{top, any-yes}
 use Rattle.branch_marks.specs.Marks.{Filled, bit, keptBranch}
 use Rattle.branch_marks.specs.Marks.{Held}
 use Rattle.record_marks.specs.Marks.{givenRow}
-use Rattle.deciding.specs.Deciding.{noneOlder, given, keptRecord, youngToo, Started, Behind, Deciding}
+use Rattle.deciding.specs.Deciding.{noneOlder, given, keptRecord, youngToo, Started, Behind}
+
+-- the first r numbers are the moments that decide a reclaim to the floor m with these named ones, the others are as they were
+pub record Deciding (bs : List Branch) (n m : ℕ) (named : List ℕ) (r : ℕ) (old table : List ℕ) : Type 0 where
+  pub within : r ≤ length table
+  pub few : r ≤ n + 1 + length named
+  pub moments : take r table ≡ deciding named m (newestOf bs n)
+  pub rest : (k : ℕ) → r ≤ k → getD table k 0 ≡ getD old k 0
+  pub long : length table ≡ length old
 
 -- the starts above the floor
 abbrev pub starts : ℕ → List Branch → List ℕ
@@ -108,14 +116,18 @@ gather-end {bs} {n} {m} {i} {c} {old} {table} g l r =
     nothing-more : take c table ++ starts m (newestOf bs 0) ≡ take c table
     nothing-more = ap (λ (x : List ℕ). take c table ++ x) (starts-none m) ∙ append-nil (take c table)
 
--- the moments of the first names, one after the other
+-- the moments of the first names: how many they are, and one after the other
+pub count-named : (ns : List Name) (k : ℕ) → k ≤ length ns → length (moments (take k ns)) ≡ k
+count-named ns k l = length-map (take k ns) (λ (n : Name). n .moment) ∙ length-take-le k ns l
+
 pub behind-start : (ns : List Name) (c : ℕ) (old : List ℕ) → Behind (moments (take 0 ns)) c (c + 0) old old
-behind-start ns c old = record { first = rw (add-zero c) (sym (append-nil (take c old))); rest = λ k l. refl; long = refl }
+behind-start ns c old = record { count = refl; first = rw (add-zero c) (sym (append-nil (take c old))); rest = λ k l. refl; long = refl }
 
 pub behind-step : (ns : List Name) (c j : ℕ) {v : ℕ} {old table : List ℕ} → Behind (moments (take j ns)) c (c + j) old table → j < length ns → c + j < length old → v ≡ nameRow ns j .moment
     → Behind (moments (take (j + 1) ns)) c (c + (j + 1)) old (set table (c + j) v)
 behind-step ns c j {v} {old} {table} b l r e =
     record {
+      count = omega (arith, count-named ns (j + 1) (omega arith));
       first =
           rw (add-one j, add-suc c j)
           (take-suc-set table (c + j) v (omega (arith, b .long))
@@ -131,20 +143,17 @@ behind-step ns c j {v} {old} {table} b l r e =
         ∙ (map-append (λ (n : Name). n .moment) (take j ns) (nameRow ns j ∷ []) ∙ ap (λ (x : ℕ). moments (take j ns) ++ (x ∷ [])) (sym e))
 
 -- starts, and names behind them
-pub both-listed : {bs : List Branch} {n m c k : ℕ} {named old mid table : List ℕ} → Started bs n m c old mid → Behind named c (c + k) mid table → length named ≡ k → c + k ≤ length old
-    → Deciding bs n m named (c + k) old table
-both-listed {bs} {n} {m} {c} {k} {named} {old} {mid} {table} s b e l =
+pub both-listed : {bs : List Branch} {n m c r : ℕ} {named old mid table : List ℕ} → Started bs n m c old mid → Behind named c r mid table → r ≤ length old
+    → Deciding bs n m named r old table
+both-listed {bs} {n} {m} {c} {r} {named} {old} {mid} {table} s b l =
     let z : length table ≡ length old = b .long ∙ s .long in
     record {
       within = omega arith;
-      few = omega (arith, s .few);
+      few = omega (arith, s .few, b .count);
       moments = b .first ∙ ap (λ (x : List ℕ). x ++ named) (s .moments);
-      rest = λ i a. b .rest i a ∙ s .rest i (omega arith);
+      rest = λ i a. b .rest i a ∙ s .rest i (omega (arith, b .count));
       long = z;
     }
-
-pub count-named : (ns : List Name) (k : ℕ) → k ≤ length ns → length (moments (take k ns)) ≡ k
-count-named ns k l = length-map (take k ns) (λ (n : Name). n .moment) ∙ length-take-le k ns l
 
 -- the moments that decide are held
 row-held : (bs : List Branch) (n t i : ℕ) → n ≤ length bs → i < n → branch bs i .start ≤ t → t ≤ branch bs i .end → held bs n t ≡ true

@@ -22,15 +22,8 @@ pub record Started (bs : List Branch) (n m r : ℕ) (old table : List ℕ) : Typ
 
 -- from the number c up to r the list stands, the others are as they were
 pub record Behind (more : List ℕ) (c r : ℕ) (old table : List ℕ) : Type 0 where
+  pub count : r ≡ c + length more
   pub first : take r table ≡ take c old ++ more
-  pub rest : (k : ℕ) → r ≤ k → getD table k 0 ≡ getD old k 0
-  pub long : length table ≡ length old
-
--- the first r numbers are the moments that decide a reclaim to the floor m with these named ones, the others are as they were
-pub record Deciding (bs : List Branch) (n m : ℕ) (named : List ℕ) (r : ℕ) (old table : List ℕ) : Type 0 where
-  pub within : r ≤ length table
-  pub few : r ≤ n + 1 + length named
-  pub moments : take r table ≡ deciding named m (newestOf bs n)
   pub rest : (k : ℕ) → r ≤ k → getD table k 0 ≡ getD old k 0
   pub long : length table ≡ length old
 

@@ -5,7 +5,7 @@ ghost use lib.ListN.{length, take};
 ghost use Rattle.model.specs.Store.{moments};
 ghost use Rattle.rows.specs.Rows.{branchRowsOf, recordRowsOf, nameRowsOf, BranchesIn, RecordsIn, NamesIn};
 ghost use Rattle.branch_marks.specs.Marks.{Filled, Zeros};
-ghost use Rattle.deciding.specs.Deciding.{noneOlder, youngToo, Started, Behind, Deciding};
+ghost use Rattle.deciding.specs.Deciding.{noneOlder, youngToo, Started, Behind};
 
 // Room for the moments that decide: the floor, a start of each of 4,096 branches, and 32 names.
 pub fn moments() -> [u32; 4129]
@@ -14,8 +14,8 @@ pub fn moments() -> [u32; 4129]
     [0u32; 4129]
 }
 
-// The floor, and the starts above it, newest first; and how many they are.
-fn starts(bt: &[u32], n: usize, floor: u32, table: &mut [u32]) -> usize
+// The first moments that decide a reclaim: the floor, and the starts above it, newest first; and how many they are.
+pub fn starts(bt: &[u32], n: usize, floor: u32, table: &mut [u32]) -> usize
     requires { ⌜ BranchesIn n (now bt) × (n < length (now table)) ⌝ }
     ensures { λ r. ⌜ Started (branchRowsOf (now (bt .entry))) n floor r (now (table .entry)) (now (table .exit)) ⌝ }
 {
@@ -34,10 +34,10 @@ fn starts(bt: &[u32], n: usize, floor: u32, table: &mut [u32]) -> usize
     c
 }
 
-// Behind the first c numbers the moments of k names.
-fn put_named(nt: &[u32], k: usize, c: usize, table: &mut [u32])
+// The others, behind those c: the moments of k names; and how many they all are.
+pub fn named(nt: &[u32], k: usize, c: usize, table: &mut [u32]) -> usize
     requires { ⌜ NamesIn k (now nt) × (c + k ≤ length (now table)) ⌝ }
-    ensures { λ _. ⌜ Behind (moments (take k (nameRowsOf (now (nt .entry))))) c (c + k) (now (table .entry)) (now (table .exit)) ⌝ }
+    ensures { λ r. ⌜ Behind (moments (take k (nameRowsOf (now (nt .entry))))) c r (now (table .entry)) (now (table .exit)) ⌝ }
 {
     let mut j: usize = 0;
     while j < k {
@@ -45,15 +45,6 @@ fn put_named(nt: &[u32], k: usize, c: usize, table: &mut [u32])
         table[c + j] = n.moment;
         j += 1;
     }
-}
-
-// The moments that decide a reclaim: the floor, and the starts above it, newest first, and those of k names behind them; and how many they are.
-pub fn deciding(bt: &[u32], n: usize, floor: u32, nt: &[u32], k: usize, table: &mut [u32]) -> usize
-    requires { ⌜ BranchesIn n (now bt) × NamesIn k (now nt) × (n + k < length (now table)) ⌝ }
-    ensures { λ r. ⌜ Deciding (branchRowsOf (now (bt .entry))) n floor (moments (take k (nameRowsOf (now (nt .entry))))) r (now (table .entry)) (now (table .exit)) ⌝ }
-{
-    let c = starts(bt, n, floor, table);
-    put_named(nt, k, c, table);
     c + k
 }
 

@@ -52,7 +52,8 @@ fn mark_all(
     ensures { λ _. ⌜ Filled (keptRecord (branchRowsOf (now (bt .entry))) n (recordRowsOf (now (rt .entry))) nr floor (moments (take k (nameRowsOf (now (nt .entry)))))) nr (now (rm .entry)) (now (rm .exit)) ⌝ }
 {
     let mut table = deciding::moments();
-    let c = deciding::deciding(bt, n, floor, nt, k, &mut table);
+    let s = deciding::starts(bt, n, floor, &mut table);
+    let c = deciding::named(nt, k, s, &mut table);
     branch_marks::mark_branches(bt, n, &table[..c], bm);
     if deciding::none_older(rt, nr, floor) {
         deciding::keep_young(rt, nr, floor, rm);

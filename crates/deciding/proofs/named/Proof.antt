@@ -1,4 +1,4 @@
--- `deciding::put_named` meets its contract: the moments of the first j names stand behind the first c numbers.
+-- `deciding::named` meets its contract: the moments of the first j names stand behind the first c numbers.
 use mathlib.Core.Path.{_≡_, ap}
 use Prim.Native.Nat.{_+_, _-_, _≤_}
 use native.Mathlib.Omega.{arith}
@@ -11,8 +11,8 @@ use Rattle.rows.specs.Rows.{nameRowsOf}
 use Rattle.rows.proofs.Laws.{name-count}
 use Rattle.deciding.specs.Deciding.{Behind}
 use Rattle.deciding.proofs.Keeping.{behind-start, behind-step}
-use Rattle.deciding.proofs.put_named.Statement.{statement}
-use Rattle.deciding.proofs.put_named.Tie as tie
+use Rattle.deciding.proofs.named.Statement.{statement}
+use Rattle.deciding.proofs.named.Tie as tie
 
 abbrev Inv-loop : tie.InvT-loop
 Inv-loop nt k c table₀ j₀ table j = Behind (moments (take j (nameRowsOf nt))) c (c + j) table₀ table × (j ≤ k)
@@ -52,6 +52,9 @@ loop-again c =
       omega (arith, c .before .loop-test .taken),
     )
 
+add-result : tie.Need-add-result Inv-loop μ-loop
+add-result c = search needs
+
 same-length : tie.Need-same-length Inv-loop μ-loop
 same-length c = c .before .loop .inv .0 .long
 
@@ -61,8 +64,8 @@ returns c =
     let e : l .loop .j ≡ start l .args .k = omega (arith, l .loop .inv .1, c .loop-test .left) in
     rw e at (l .loop .inv .0)
 
-pub put-named-spec : {M : Type 1} → statement M
-put-named-spec =
+pub named-spec : {M : Type 1} → statement M
+named-spec =
     tie.close
     (tie.spec
     Inv-loop
@@ -75,5 +78,6 @@ put-named-spec =
     add-j
     loop-less
     loop-again
+    add-result
     same-length
     returns)
