@@ -78,6 +78,7 @@ static void differs(const char *what, const char *of)
     }
     if (++printed <= 20)
         printf("differs at call %" PRIu64 " of the family: %s %s\n", counts.calls, what, of);
+    fflush(stdout); /* what differs may end the program soon after */
 }
 
 static void get(void *to, size_t length)

@@ -690,10 +690,10 @@ impl Store {
                     0
                 }
             }
-            Request::Name { moment, name } => {
+            Request::Name { name, moment } => {
                 if *moment < head.floor && !self.is_named(*moment) {
                     8
-                } else if *moment >= head.now {
+                } else if head.now <= *moment {
                     9
                 } else if self.row_of_name(name).is_some() {
                     15
@@ -703,13 +703,8 @@ impl Store {
                     0
                 }
             }
-            Request::Withdraw { name } => {
-                if self.row_of_name(name).is_none() {
-                    17
-                } else {
-                    0
-                }
-            }
+            Request::Withdraw { name } if self.row_of_name(name).is_none() => 17,
+            Request::Withdraw { .. } => 0,
         }
     }
 
