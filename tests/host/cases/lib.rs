@@ -279,8 +279,14 @@ pub fn examples(host: &mut dyn Host, seed: u64) {
         ((6, 1, 1, 1), vec![[mark(), mark(), mark(), reclaim(3)].concat(), read(0, 2)]),
         ((6, 2, 1, 1), vec![[mark(), mark(), mark(), mark()].concat(), revert(4)]),
         ((6, 1, 1, 1), vec![vec![0x40, 0, 0], vec![0; 7], vec![0x40, 0, 0, 0, 0, 0, 1]]),
-        ((6, 1, 1, 1), vec![mark(), name(0, b"cut shor"), name(0, b"cut sho"), name(0, b""), withdraw(b""), withdraw(b"cut sho")]),
-        ((6, 1, 1, 1), vec![vec![0xC0, 0, 0, 0, 0, 0, 1], vec![0xC0, 0, 0x20, 0, 0, 0, 0], vec![0xE0, 0, 0, 0, 0, 0, 0x20]]),
+        (
+            (6, 1, 1, 1),
+            vec![mark(), name(0, b"cut shor"), name(0, b"cut sho"), name(0, b""), withdraw(b""), withdraw(b"cut sho")],
+        ),
+        (
+            (6, 1, 1, 1),
+            vec![vec![0xC0, 0, 0, 0, 0, 0, 1], vec![0xC0, 0, 0x20, 0, 0, 0, 0], vec![0xE0, 0, 0, 0, 0, 0, 0x20]],
+        ),
     ];
     for ((size, branches, records, places), batches) in lists {
         let mut run = Run::fresh_of(host, draw, &Sizes { size, branches, records, places });

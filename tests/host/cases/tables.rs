@@ -246,7 +246,8 @@ pub fn change_number(draw: &mut Draw, areas: &mut Areas) {
         0 | 1 => old.wrapping_add(1),
         2 | 3 => old.wrapping_sub(1),
         4 => 0,
-        5 => draw.one_of(&[1, 2, 3, 31, 32, 33, 4_096, 4_097, 65_535, 65_536, 65_537, 4_294_967_294, 4_294_967_295]) as u32,
+        5 => draw.one_of(&[1, 2, 3, 31, 32, 33, 4_096, 4_097, 65_535, 65_536, 65_537, 4_294_967_294, 4_294_967_295])
+            as u32,
         6 => head[draw.below(6) as usize],
         7 => number_at(area, draw.below(numbers as u64) as usize),
         _ => draw.next() as u32,

@@ -555,7 +555,10 @@ fn refusals_of_names() {
     assert_eq!(answers(&mut store, &[name(3, b'x'), name(4, b'x')]), [(9, 0, None), (9, 0, None)]);
     assert_eq!(answers(&mut store, &[withdraw(b'x')]), [(17, 0, None)]);
     // 15 for this moment and for another; all eight bytes are compared.
-    assert_eq!(answers(&mut store, &[name(1, b'x'), name(1, b'x'), name(2, b'x')])[1..], [(15, 0, None), (15, 0, None)]);
+    assert_eq!(
+        answers(&mut store, &[name(1, b'x'), name(1, b'x'), name(2, b'x')])[1..],
+        [(15, 0, None), (15, 0, None)]
+    );
     for byte in 0..8 {
         let mut other = name(1, b'x');
         other[7 + byte] = b'y';
@@ -568,7 +571,10 @@ fn refusals_of_names() {
         );
     }
     // Eight zero bytes are a name.
-    assert_eq!(answers(&mut store, &[withdraw(0), name(1, 0), withdraw(0)]), [(17, 0, None), (0, 1, None), (0, 1, None)]);
+    assert_eq!(
+        answers(&mut store, &[withdraw(0), name(1, 0), withdraw(0)]),
+        [(17, 0, None), (0, 1, None), (0, 1, None)]
+    );
     // 32 names: 8 and 9 before 15, 15 before 16.
     answers(&mut store, &[reclaim(1)]);
     let more: Vec<Vec<u8>> = (1..32).map(|letter| name(2, letter)).collect();
@@ -576,11 +582,17 @@ fn refusals_of_names() {
     assert_eq!(number_at(&store.head, 5), 32);
     let before = store.clone();
     assert_eq!(
-        answers(&mut store, &[name(2, 32), name(2, 31), name(1, b'x'), name(3, 31), name(3, 32), name(0, 31), name(0, 32)]),
+        answers(
+            &mut store,
+            &[name(2, 32), name(2, 31), name(1, b'x'), name(3, 31), name(3, 32), name(0, 31), name(0, 32)]
+        ),
         [(16, 0, None), (15, 0, None), (15, 0, None), (9, 0, None), (9, 0, None), (8, 0, None), (8, 0, None)]
     );
     assert_eq!(store, before);
-    assert_eq!(answers(&mut store, &[withdraw(32), withdraw(31), name(1, 32)]), [(17, 0, None), (0, 2, None), (0, 1, None)]);
+    assert_eq!(
+        answers(&mut store, &[withdraw(32), withdraw(31), name(1, 32)]),
+        [(17, 0, None), (0, 2, None), (0, 1, None)]
+    );
     assert_eq!(check(&store), 0);
 }
 

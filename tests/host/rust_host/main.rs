@@ -258,7 +258,11 @@ impl Host for RustHost {
                 parts.join(", ")
             }
         };
-        println!("    results and stops {}; refusals {}", list(&counts.stops, 0..NUMBERS), list(&counts.refusals, 1..NUMBERS));
+        println!(
+            "    results and stops {}; refusals {}",
+            list(&counts.stops, 0..NUMBERS),
+            list(&counts.refusals, 1..NUMBERS)
+        );
         for number in 0..NUMBERS {
             self.seen[number] += counts.stops[number] + counts.refusals[number];
         }
