@@ -1,5 +1,5 @@
 /* Times batches by how far their writes look for a free place: the library, plain C (plain.c) and, where BEFORE is defined, an
-   earlier library whose entries are renamed before_fresh and before_batch. Answers and all five areas are compared byte for byte
+   earlier library whose entries are renamed before_fresh and before_batch. Answers and all six areas are compared byte for byte
    after every batch, and once for each row of a table with what is due: each write in the smallest free place, looked for from
    the first one on. Times are of the processor, not of the clock.
    usage: places [REPETITIONS]      an odd number up to 201, by default 41 */
@@ -8,6 +8,7 @@
 #include <stdlib.h>
 #include <string.h>
 #include <time.h>
+#include "before.h"
 #include "kizmoolet.h"
 #include "kizmoolet_requests.h"
 #include "store.h"
@@ -110,8 +111,8 @@ static void make(struct areas *s, const struct work *w)
     s->records = room(s->records_len);
     s->places = room(s->places_len);
     s->slab = room(s->slab_len);
-    const uint32_t head[5] = {z->pages, z->branches, w->used, z->branches * MOMENTS - 1, 0};
-    for (int i = 0; i < 5; i++)
+    const uint32_t head[6] = {z->pages, z->branches, w->used, z->branches * MOMENTS - 1, 0, 0};
+    for (int i = 0; i < 6; i++)
         put32(s->head + 4 * i, head[i]);
     for (uint32_t k = 0; k < z->branches; k++) {
         uint8_t *p = s->branches + 12 * (size_t)k;
@@ -132,6 +133,7 @@ static void copy_areas(struct areas *to, const struct areas *from)
     memcpy(to->branches, from->branches, from->branches_len);
     memcpy(to->records, from->records, from->records_len);
     memcpy(to->places, from->places, from->places_len);
+    memcpy(to->names, from->names, sizeof to->names);
     memcpy(to->head, from->head, sizeof to->head);
 }
 
@@ -139,7 +141,7 @@ static int same_areas(const struct areas *a, const struct areas *b)
 {
     return memcmp(a->head, b->head, sizeof a->head) == 0 && memcmp(a->branches, b->branches, a->branches_len) == 0
         && memcmp(a->records, b->records, a->records_len) == 0 && memcmp(a->places, b->places, a->places_len) == 0
-        && memcmp(a->slab, b->slab, a->slab_len) == 0;
+        && memcmp(a->names, b->names, sizeof a->names) == 0 && memcmp(a->slab, b->slab, a->slab_len) == 0;
 }
 
 static void free_areas(struct areas *s)
@@ -329,13 +331,9 @@ static int as_named(const struct work *w, const struct due *d)
 
 /* ---- timing */
 
-typedef uint32_t batch_function(uint8_t *, size_t, uint8_t *, size_t, uint8_t *, size_t, uint8_t *, size_t, uint8_t *, size_t,
-    const uint8_t *, size_t, uint8_t *, size_t, uint64_t *, uint64_t *, uint64_t *);
-batch_function before_batch;
-
 #ifdef BEFORE
 enum { LIBRARY, PLAIN, EARLIER, CONTENDERS };
-static batch_function *const contenders[CONTENDERS] = {kizmoolet_batch, plain_batch, before_batch};
+static batch_function *const contenders[CONTENDERS] = {kizmoolet_batch, plain_batch, earlier_batch};
 #else
 enum { LIBRARY, PLAIN, CONTENDERS };
 static batch_function *const contenders[CONTENDERS] = {kizmoolet_batch, plain_batch};
@@ -366,7 +364,8 @@ static double time_batch(batch_function *f)
     memset(answers, 0xA5, sizeof answers);
     double began = seconds();
     uint32_t stop = f(used.head, sizeof used.head, used.branches, used.branches_len, used.records, used.records_len, used.places,
-        used.places_len, used.slab, used.slab_len, batch, batch_len, answers, sizeof answers, &answered, &taken, &answer_bytes);
+        used.places_len, used.names, sizeof used.names, used.slab, used.slab_len, batch, batch_len, answers, sizeof answers,
+        &answered, &taken, &answer_bytes);
     double took = seconds() - began;
     if (stop != 0 || taken != batch_len)
         fail("a batch was not carried out to its end");
