@@ -7,7 +7,9 @@
    protected  as pages; and what a call must not write to may only be read while it runs: all areas where
               1, 2 or 3 is due, the batch always, the slab of a fresh store always. A call that writes
               there all the same counts as one that differs
-   exact      an allocation of just its length, for a run under a tool that watches allocations */
+   exact      an allocation of just its length, for a run under a tool that watches allocations
+
+   With `all` as the second argument every refusal and stop must come up; with `first` the first difference ends it. */
 
 #define _GNU_SOURCE
 #include "kizmoolet.h"
@@ -61,6 +63,7 @@ static unsigned printed;
 static bool exact;
 static bool protecting;
 static bool all_families;
+static bool only_first;
 static uint8_t *expected;
 
 static void fail(const char *what)
@@ -79,6 +82,8 @@ static void differs(const char *what, const char *of)
     if (++printed <= 20)
         printf("differs at call %" PRIu64 " of the family: %s %s\n", counts.calls, what, of);
     fflush(stdout); /* what differs may end the program soon after */
+    if (only_first)
+        _exit(1);
 }
 
 static void get(void *to, size_t length)
@@ -431,6 +436,7 @@ int main(int argc, char **argv)
     exact = argc > 1 && strcmp(argv[1], "exact") == 0;
     protecting = argc > 1 && strcmp(argv[1], "protected") == 0;
     all_families = argc > 2 && strcmp(argv[2], "all") == 0;
+    only_first = argc > 2 && strcmp(argv[2], "first") == 0;
     size_t page = (size_t)sysconf(_SC_PAGESIZE);
     if (most_bytes % page != 0)
         fail("a page is larger than thought");

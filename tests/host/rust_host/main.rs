@@ -98,6 +98,8 @@ struct RustHost {
     /// The call at work has been counted as differing.
     told: bool,
     printed: u64,
+    /// The first difference ends the program.
+    only_first: bool,
 }
 
 impl RustHost {
@@ -110,6 +112,9 @@ impl RustHost {
         self.printed += 1;
         if self.printed <= 20 {
             println!("differs at call {} of the family: {what}", self.counts.calls);
+        }
+        if self.only_first {
+            std::process::exit(1);
         }
     }
 
@@ -282,7 +287,8 @@ fn work() -> bool {
     let arguments: Vec<String> = std::env::args().collect();
     let seed = arguments[1].parse().expect("a seed");
     let scale = arguments[2].parse().expect("a scale in hundredths");
-    let mut host = RustHost::default();
+    let only_first = arguments.get(4).is_some_and(|word| word == "first");
+    let mut host = RustHost { only_first, ..RustHost::default() };
     cases::all(&mut host, seed, scale, &arguments[3]);
     let missing: Vec<String> =
         (1..18).filter(|number| host.seen[*number] == 0).map(|number| number.to_string()).collect();
