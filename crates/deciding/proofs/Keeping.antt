@@ -25,13 +25,11 @@ use Rattle.branch_marks.specs.Marks.{Held}
 use Rattle.record_marks.specs.Marks.{givenRow}
 use Rattle.deciding.specs.Deciding.{noneOlder, given, keptRecord, youngToo, Started, Behind}
 
--- the first r numbers are the moments that decide a reclaim to the floor m with these named ones, the others are as they were
-pub record Deciding (bs : List Branch) (n m : ℕ) (named : List ℕ) (r : ℕ) (old table : List ℕ) : Type 0 where
+-- the first r numbers are the moments that decide a reclaim to the floor m with these named ones
+pub record Deciding (bs : List Branch) (n m : ℕ) (named : List ℕ) (r : ℕ) (table : List ℕ) : Type 0 where
   pub within : r ≤ length table
   pub few : r ≤ n + 1 + length named
   pub moments : take r table ≡ deciding named m (newestOf bs n)
-  pub rest : (k : ℕ) → r ≤ k → getD table k 0 ≡ getD old k 0
-  pub long : length table ≡ length old
 
 -- the starts above the floor
 abbrev pub starts : ℕ → List Branch → List ℕ
@@ -143,17 +141,10 @@ behind-step ns c j {v} {old} {table} b l r e =
         ∙ (map-append (λ (n : Name). n .moment) (take j ns) (nameRow ns j ∷ []) ∙ ap (λ (x : ℕ). moments (take j ns) ++ (x ∷ [])) (sym e))
 
 -- starts, and names behind them
-pub both-listed : {bs : List Branch} {n m c r : ℕ} {named old mid table : List ℕ} → Started bs n m c old mid → Behind named c r mid table → r ≤ length old
-    → Deciding bs n m named r old table
+pub both-listed : {bs : List Branch} {n m c r : ℕ} {named old mid table : List ℕ} → Started bs n m c old mid → Behind named c r mid table → r ≤ length old → Deciding bs n m named r table
 both-listed {bs} {n} {m} {c} {r} {named} {old} {mid} {table} s b l =
     let z : length table ≡ length old = b .long ∙ s .long in
-    record {
-      within = omega arith;
-      few = omega (arith, s .few, b .count);
-      moments = b .first ∙ ap (λ (x : List ℕ). x ++ named) (s .moments);
-      rest = λ i a. b .rest i a ∙ s .rest i (omega (arith, b .count));
-      long = z;
-    }
+    record { within = omega arith; few = omega (arith, s .few, b .count); moments = b .first ∙ ap (λ (x : List ℕ). x ++ named) (s .moments) }
 
 -- the moments that decide are held
 row-held : (bs : List Branch) (n t i : ℕ) → n ≤ length bs → i < n → branch bs i .start ≤ t → t ≤ branch bs i .end → held bs n t ≡ true
@@ -172,9 +163,9 @@ start-row bs (suc k) m t l x =
     elim x″ [ inl e ↦ (k, omega arith, e) | inr y ↦ more y ])
     (λ d. more (rw (starts-skip m (branch bs k) (newestOf bs k) (ltb-false m (branch bs k .start) d)) at x′))
 
-pub deciding-held : {bs : List Branch} {n m r : ℕ} {named start table : List ℕ} → Line bs n → n ≤ length bs → held bs n m ≡ true → Held bs n named → Deciding bs n m named r start table
+pub deciding-held : {bs : List Branch} {n m r : ℕ} {named table : List ℕ} → Line bs n → n ≤ length bs → held bs n m ≡ true → Held bs n named → Deciding bs n m named r table
     → Held bs n (take r table)
-deciding-held {bs} {n} {m} {r} {named} {start} {table} h room hm hn d =
+deciding-held {bs} {n} {m} {r} {named} {table} h room hm hn d =
     record {
       each =
           λ t i.
@@ -189,7 +180,7 @@ deciding-held {bs} {n} {m} {r} {named} {start} {table} h room hm hn d =
     start-held i l = row-held bs n (branch bs i .start) i room l (omega arith) (h .stairs .ordered i l)
 
 -- the branches by the moments listed are those by the moments that decide
-pub kept-branches : {bs : List Branch} {n m r : ℕ} {named start table old new : List ℕ} → Deciding bs n m named r start table
+pub kept-branches : {bs : List Branch} {n m r : ℕ} {named table old new : List ℕ} → Deciding bs n m named r table
     → Filled (keptBranch bs n (take r table)) n old new → Filled (keptBranch bs n (deciding named m (newestOf bs n))) n old new
 kept-branches d f = rw (d .moments) at f
 
@@ -207,9 +198,9 @@ kept-byte : (bs : List Branch) (n : ℕ) (rs : List Record) (nr m k : ℕ) (name
 unfolding given
 kept-byte bs n rs nr m k named = refl
 
-pub kept-all : {bs : List Branch} {n : ℕ} (rs : List Record) {nr m r : ℕ} {named start table old mid new : List ℕ} → Deciding bs n m named r start table
+pub kept-all : {bs : List Branch} {n : ℕ} (rs : List Record) {nr m r : ℕ} {named table old mid new : List ℕ} → Deciding bs n m named r table
     → Filled (givenRow bs n rs nr (take r table)) nr old mid → Filled (youngToo rs m mid) nr mid new → Filled (keptRecord bs n rs nr m named) nr old new
-kept-all {bs} {n} rs {nr} {m} {r} {named} {start} {table} {old} {mid} {new} d f g =
+kept-all {bs} {n} rs {nr} {m} {r} {named} {table} {old} {mid} {new} d f g =
     record {
       first = λ k l. g .first k l ∙ byte k l;
       rest = λ k l. g .rest k l ∙ f .rest k l;

@@ -4,7 +4,7 @@ use Prim.Native.Nat.{_+_, _-_, _≤_}
 use native.Mathlib.Omega.{arith}
 use borrow.Author.Needs.{needs}
 use denote.Ref.{now}
-use lib.ListN.{length, take}
+use lib.ListN.{take}
 use Rattle.model.specs.declared.Name.{Name}
 use Rattle.model.specs.Store.{moments}
 use Rattle.rows.specs.Rows.{nameRowsOf}

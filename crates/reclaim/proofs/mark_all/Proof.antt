@@ -48,7 +48,7 @@ count s = count-named (nameRowsOf (now (s .args .nt))) (s .args .k) (omega (arit
 abbrev table : tie.After-named → List ℕ
 table d = d .named .last .1 .1 .1 .0
 
-decided : (d : tie.After-named) → Deciding (branchRowsOf (now (start d .args .bt))) (start d .args .n) (start d .args .floor) (named (start d)) (d .named .result) (((started d) .before .before) .moments .result) (table d)
+decided : (d : tie.After-named) → Deciding (branchRowsOf (now (start d .args .bt))) (start d .args .n) (start d .args .floor) (named (start d)) (d .named .result) (table d)
 decided d =
     let f = started d in
     both-listed (f .starts .ensures) (d .named .ensures)
