@@ -292,8 +292,10 @@ static size_t whole_length(const uint8_t *header, size_t in_file) {
     size_t places = number_at(header + 16);
     size_t whole = image_length(number_at(header + 8), number_at(header + 12), (uint32_t)places);
     in_file += lacking(header);
-    if ((memcmp(header, magic, 8) != 0 && !lacking(header)) || whole > image_length(BRANCHES_MOST, ROWS_MOST, ROWS_MOST) ||
-        in_file > whole || whole - in_file > PAGE * places || (whole - in_file) % PAGE != 0)
+    if (memcmp(header, magic, 8) != 0 && !lacking(header))
+        return 0;
+    if (whole > image_length(BRANCHES_MOST, ROWS_MOST, ROWS_MOST) || in_file > whole ||
+        whole - in_file > PAGE * places || (whole - in_file) % PAGE != 0)
         return 0;
     return whole;
 }
@@ -301,7 +303,8 @@ static size_t whole_length(const uint8_t *header, size_t in_file) {
 /* An image of before 0.3.0 becomes one without names. There is room for the whole image. */
 static void bring_up(struct image *image) {
     uint8_t *from = image->bytes + HEADER + OLD_HEAD, *to = image->bytes + HEADER + HEAD;
-    size_t tables = 12 * ((size_t)number_at(image->bytes + 8) + number_at(image->bytes + 12)) + 4 * (size_t)number_at(image->bytes + 16);
+    lay_out(image);
+    size_t tables = image->branches_len + image->records_len + image->places_len;
     memmove(to + tables + NAMES, from + tables, image->in_file - HEADER - OLD_HEAD - tables);
     memset(to + tables, 0, NAMES);
     memmove(to, from, tables);
