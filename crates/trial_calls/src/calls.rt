@@ -207,7 +207,17 @@ fn ask_on(
     answers: &mut [u8; 4096],
 ) {
     let input = input_bytes(b);
-    let d = batch_on(head(w), lent_lengths(w), bt, rt, pt, nt, slab, &input, answers);
+    let d = batch_on(
+        head(w),
+        lent_lengths(w),
+        bt,
+        rt,
+        pt,
+        nt,
+        slab,
+        &input,
+        answers,
+    );
     note(w, d);
     faults::put_in_kept(w, b);
 }

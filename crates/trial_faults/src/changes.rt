@@ -55,7 +55,11 @@ fn place_of(w: &Numbers, c: u32) -> u32 {
     if c < 11 + FIRST_NAMES {
         return plus(NAME_TABLE, minus(c, 11));
     }
-    table_place(minus(c, 11 + FIRST_NAMES), branch_numbers(w), record_numbers(w))
+    table_place(
+        minus(c, 11 + FIRST_NAMES),
+        branch_numbers(w),
+        record_numbers(w),
+    )
 }
 
 fn table_place(i: u32, branches: u32, records: u32) -> u32 {

@@ -62,7 +62,7 @@ fn step(w: &Numbers) -> u32 {
 fn spot(w: &Numbers, b: &Bytes, fault: u32) -> u32 {
     let turn = get(w, TURN);
     if turn == PLAY {
-        return in_batch(w, fault);
+        return in_batch(w, b, fault);
     }
     if turn == CHANGED {
         return in_refused(fault);
@@ -73,7 +73,7 @@ fn spot(w: &Numbers, b: &Bytes, fault: u32) -> u32 {
     in_page(b, fault)
 }
 
-fn in_batch(w: &Numbers, fault: u32) -> u32 {
+fn in_batch(w: &Numbers, b: &Bytes, fault: u32) -> u32 {
     match fault {
         1..=5 => plus(BYTES, plus(ANSWERS, minus(fault, 1))),
         7..=10 => plus(STOP, minus(fault, 7)),
@@ -83,7 +83,7 @@ fn in_batch(w: &Numbers, fault: u32) -> u32 {
         22 => plus(BYTES, plus(ANSWERS, minus(get(w, AREA), 1))),
         40 => in_place(w, get(w, HEAD_RECORDS), largest_free(w)),
         41..=46 => in_names(w, fault, get(w, HEAD_NAMES)),
-        47 => in_naming(w),
+        47 => in_naming(b, listed(w, 0).operation),
         _ => NOWHERE,
     }
 }
@@ -94,7 +94,11 @@ fn in_names(w: &Numbers, fault: u32, names: u32) -> u32 {
         return HEAD_NAMES;
     }
     if fault == 45 {
-        return if names < MOST_NAMES { name_row(names) } else { NOWHERE };
+        return if names < MOST_NAMES {
+            name_row(names)
+        } else {
+            NOWHERE
+        };
     }
     if fault == 46 {
         return if names < 2 { NOWHERE } else { SWAPPED_NAMES };
@@ -106,9 +110,12 @@ fn in_names(w: &Numbers, fault: u32, names: u32) -> u32 {
     }
 }
 
-// The moment that a naming answers with.
-fn in_naming(w: &Numbers) -> u32 {
-    if listed(w, 0).operation == 6 {
+// The moment that an accepted naming answers with.
+fn in_naming(b: &Bytes, operation: u32) -> u32 {
+    if operation != 6 {
+        return NOWHERE;
+    }
+    if byte(b, ANSWERS) == 0 {
         plus(BYTES, plus(ANSWERS, 4))
     } else {
         NOWHERE

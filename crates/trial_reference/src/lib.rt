@@ -433,11 +433,7 @@ fn naming_refusal(w: &Numbers, name: u32, moment: u32) -> u32
     if names::is_given(w, high_of(name), low_of(name)) {
         return 15;
     }
-    if get(w, NAMES) >= MOST_NAMES {
-        16
-    } else {
-        0
-    }
+    if get(w, NAMES) >= MOST_NAMES { 16 } else { 0 }
 }
 
 fn withdrawal_refusal(w: &Numbers, name: u32) -> u32
