@@ -17,11 +17,11 @@ known c = c .before .before .before .before .before
 abbrev handed : tie.After-batch-arg → tie.Start
 handed c = known (c .before .before .before)
 
-abbrev ran-from-pt : tie.After-pt → tie.After-batch
-ran-from-pt c = c .before .before .before .before .before
+abbrev ran-from-slice-known8 : tie.After-slice-known8 → tie.After-batch
+ran-from-slice-known8 c = c .before .before .before .before
 
 abbrev ran-from-slab : tie.After-slab → tie.After-batch
-ran-from-slab c = ran-from-pt (c .before .before .before .before)
+ran-from-slab c = ran-from-slice-known8 (c .before .before .before .before .before)
 
 abbrev ran : tie.After-after → tie.After-batch
 ran c = ran-from-slab (c .before .before .before .before)
