@@ -62,7 +62,7 @@ pub fn make(
         },
     );
     let first = Head {
-        size,
+        size: size,
         branches: 1,
         records: 0,
         now: 0,
