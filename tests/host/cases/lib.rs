@@ -534,9 +534,8 @@ pub fn full_tables(host: &mut dyn Host, seed: u64, count: u64) {
 /// some of the group's 128 pages and a mark; now and then a set-back, some of them undone weeks later;
 /// every month a reclaim that leaves a year, in some decades ten, and a few writes behind it. In the last
 /// decades the record table gets full now and then. Twice a year the state is commissioned, by a name; names are withdrawn
-/// after some years, most of them below the floor by then, or sooner where all 32 are given. Every week is read at a named
-/// moment, and some set-backs go to one. The lent areas are compared every `interval` weeks, answers and counts after every
-/// call.
+/// after a year or more, most of them below the floor by then. Every week is read at a named moment, and some set-backs go to
+/// one. The lent areas are compared every `interval` weeks, answers and counts after every call.
 pub fn hundred_years(host: &mut dyn Host, seed: u64, weeks: u64, interval: u64) {
     let draw = &mut Draw::new(seed);
     let sizes = Sizes { size: 65_536, branches: 4_096, records: 65_536, places: 65_536 };
@@ -618,7 +617,8 @@ pub fn hundred_years(host: &mut dyn Host, seed: u64, weeks: u64, interval: u64) 
 /// Reads at a named moment; every half year a new name; now and then one withdrawn, mostly the oldest.
 fn names_of_week(draw: &mut Draw, outlook: &Outlook, week: u64) -> Vec<u8> {
     let mut bytes = Vec::new();
-    if let Some(named) = outlook.names.get(draw.below(32) as usize) {
+    if !outlook.names.is_empty() {
+        let named = outlook.names[draw.below(outlook.names.len() as u64) as usize];
         for _ in 0..3 {
             bytes.extend(read(draw.below(65_536), u64::from(named.moment)));
         }
@@ -627,8 +627,8 @@ fn names_of_week(draw: &mut Draw, outlook: &Outlook, week: u64) -> Vec<u8> {
         let moment = draw.within(outlook.now.saturating_sub(20).max(outlook.floor), outlook.now);
         bytes.extend(name(moment, &(week / 26).to_be_bytes()));
     }
-    if week % 26 == 9 && outlook.names.len() > 3 && draw.percent(90) {
-        let row = if draw.percent(60) { 0 } else { draw.below(outlook.names.len() as u64) };
+    if week % 26 == 9 && outlook.names.len() > 2 && draw.percent(90) {
+        let row = if draw.percent(75) { 0 } else { draw.below(outlook.names.len() as u64) };
         bytes.extend(withdraw(&outlook.names[row as usize].bytes));
     }
     bytes
