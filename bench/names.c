@@ -7,8 +7,6 @@
 #include <stdio.h>
 #include <stdlib.h>
 #include <string.h>
-#include <time.h>
-#include "before.h"
 #include "kizmoolet.h"
 #include "kizmoolet_requests.h"
 #include "store.h"
@@ -130,30 +128,6 @@ static void make(struct areas *s, const struct work *w)
     }
 }
 
-static void copy_areas(struct areas *to, const struct areas *from)
-{
-    memcpy(to->branches, from->branches, from->branches_len);
-    memcpy(to->records, from->records, from->records_len);
-    memcpy(to->places, from->places, from->places_len);
-    memcpy(to->names, from->names, sizeof to->names);
-    memcpy(to->head, from->head, sizeof to->head);
-}
-
-static int same_areas(const struct areas *a, const struct areas *b)
-{
-    return memcmp(a->head, b->head, sizeof a->head) == 0 && memcmp(a->branches, b->branches, a->branches_len) == 0
-        && memcmp(a->records, b->records, a->records_len) == 0 && memcmp(a->places, b->places, a->places_len) == 0
-        && memcmp(a->names, b->names, sizeof a->names) == 0 && memcmp(a->slab, b->slab, a->slab_len) == 0;
-}
-
-static void free_areas(struct areas *s)
-{
-    free(s->branches);
-    free(s->records);
-    free(s->places);
-    free(s->slab);
-}
-
 /* ---- batches */
 
 static void add_name(struct kizmoolet_requests *to, const struct size *z, unsigned operation, uint32_t k)
@@ -199,59 +173,17 @@ static size_t make_batch(const struct work *w, uint8_t *batch, size_t room_for)
 
 /* ---- timing */
 
-#ifdef BEFORE
-enum { LIBRARY, PLAIN, EARLIER, CONTENDERS };
-static batch_function *const contenders[CONTENDERS] = {kizmoolet_batch, plain_batch, earlier_batch};
-#else
-enum { LIBRARY, PLAIN, CONTENDERS };
-static batch_function *const contenders[CONTENDERS] = {kizmoolet_batch, plain_batch};
-#endif
+#define BATCH_BYTES (MANY * KIZMOOLET_NAMED_BYTES)
+#define ANSWERS_BYTES (MANY * KIZMOOLET_PAGE_ANSWER_BYTES)
+#define SLAB_STAYS /* no batch here writes to it */
+#include "turns.h"
+
+static uint8_t reads_due[ANSWERS_BYTES];
 
 /* An earlier library serves stores without names, and no request of names. */
 static int contenders_of(const struct work *w)
 {
     return w->names == 0 && w->kind < NAMING ? CONTENDERS : PLAIN + 1;
-}
-
-#define MOST_REPETITIONS 201
-static double times[CONTENDERS][MOST_REPETITIONS];
-
-/* The store that a batch finds, the one it works on, the one that the library left the first time; the same for the answers. */
-static struct areas found, used, left;
-static uint8_t batch[MANY * KIZMOOLET_NAMED_BYTES];
-static uint8_t answers[MANY * KIZMOOLET_PAGE_ANSWER_BYTES], answers_left[sizeof answers], reads_due[sizeof answers];
-static size_t batch_len;
-static uint64_t answered, answer_bytes, answered_left, answer_bytes_left;
-
-static double seconds(void)
-{
-    struct timespec t;
-    clock_gettime(CLOCK_PROCESS_CPUTIME_ID, &t);
-    return (double)t.tv_sec + 1e-9 * (double)t.tv_nsec;
-}
-
-/* One batch on the store as it was found; none of them writes to the slab. */
-static double time_batch(batch_function *f)
-{
-    uint64_t taken;
-    copy_areas(&used, &found);
-    memset(answers, 0xA5, sizeof answers);
-    double began = seconds();
-    uint32_t stop = f(used.head, sizeof used.head, used.branches, used.branches_len, used.records, used.records_len, used.places,
-        used.places_len, used.names, sizeof used.names, used.slab, used.slab_len, batch, batch_len, answers, sizeof answers,
-        &answered, &taken, &answer_bytes);
-    double took = seconds() - began;
-    if (stop != 0 || taken != batch_len)
-        fail("a batch was not carried out to its end");
-    return took;
-}
-
-static void compare(void)
-{
-    if (answered != answered_left || answer_bytes != answer_bytes_left || memcmp(answers, answers_left, sizeof answers) != 0)
-        fail("two contenders give different answers");
-    if (!same_areas(&used, &left))
-        fail("two contenders leave different stores");
 }
 
 /* Whether each answer has the refusal and the number that are due; of reads a quarter and more find a page. */
@@ -283,24 +215,7 @@ static void first_batch(const struct work *w)
         memcpy(reads_due, answers, sizeof answers);
     else if ((w->kind == READS || w->kind == NAMED_READS) && memcmp(reads_due, answers, sizeof answers) != 0)
         fail("a named moment reads otherwise");
-    copy_areas(&left, &used);
-    memcpy(left.slab, used.slab, used.slab_len);
-    memcpy(answers_left, answers, sizeof answers);
-    answered_left = answered;
-    answer_bytes_left = answer_bytes;
-}
-
-static int by_value(const void *x, const void *y)
-{
-    double a = *(const double *)x, b = *(const double *)y;
-    return a < b ? -1 : a > b;
-}
-
-/* Three digits of a time. */
-static void print_time(double t)
-{
-    double x = t * (t < 1e-3 ? 1e6 : 1e3);
-    printf(" %.*f %s |", x < 10 ? 2 : x < 100 ? 1 : 0, x, t < 1e-3 ? "µs" : "ms");
+    keep_first();
 }
 
 static void print_row(const struct work *w, int repetitions)
@@ -310,10 +225,9 @@ static void print_row(const struct work *w, int repetitions)
     printf("| %s | %u | %u | %u | %u |", kinds[w->kind], (unsigned)answered_left, (unsigned)w->names, (unsigned)head_branches(&left),
         (unsigned)head_records(&left));
     for (int c = 0; c < CONTENDERS; c++)
-        if (c < n) {
-            qsort(times[c], (size_t)repetitions, sizeof times[c][0], by_value);
-            print_time(middle[c] = times[c][repetitions / 2]);
-        } else
+        if (c < n)
+            print_time(middle[c] = median_of(c, repetitions));
+        else
             printf(" |");
     for (int c = 1; c < CONTENDERS; c++)
         if (c < n)
@@ -324,31 +238,17 @@ static void print_row(const struct work *w, int repetitions)
     fflush(stdout);
 }
 
-/* A row of a table: the contenders take turns; what is short is run several times a turn. */
+/* A row of a table. */
 static void time_work(const struct work *w, int repetitions)
 {
-    int n = contenders_of(w);
     make(&found, w);
     make(&used, w);
     make(&left, w);
     batch_len = make_batch(w, batch, sizeof batch);
     first_batch(w);
-    double once = time_batch(contenders[LIBRARY]);
-    int runs = once < 5e-4 ? (int)(5e-4 / (once + 1e-6)) + 1 : 1;
-    compare();
-    for (int r = 0; r < repetitions; r++)
-        for (int turn = 0; turn < n; turn++) {
-            int c = (turn + r) % n;
-            times[c][r] = 0;
-            for (int run = 0; run < runs; run++) {
-                times[c][r] += time_batch(contenders[c]) / runs;
-                compare();
-            }
-        }
+    take_turns(contenders_of(w), repetitions);
     print_row(w, repetitions);
-    free_areas(&found);
-    free_areas(&used);
-    free_areas(&left);
+    free_stores();
 }
 
 static void time_size(const struct size *z, int repetitions)
@@ -368,9 +268,7 @@ static void time_size(const struct size *z, int repetitions)
 
 int main(int argc, char **argv)
 {
-    int repetitions = argc > 1 ? atoi(argv[1]) : 41;
-    if (repetitions < 1 || repetitions > MOST_REPETITIONS || repetitions % 2 == 0)
-        fail("repetitions are an odd number, 1 to 201");
+    int repetitions = repetitions_of(argc, argv);
     for (size_t i = 0; i < sizeof sizes / sizeof *sizes; i++)
         time_size(&sizes[i], repetitions);
     return 0;
