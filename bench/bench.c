@@ -10,6 +10,7 @@
 #include <string.h>
 #include <time.h>
 #include <unistd.h>
+#include "before.h"
 #include "kizmoolet.h"
 #include "store.h"
 
@@ -18,6 +19,7 @@
 #define FEW 64u         /* the same for the databases */
 #define AFTER 32u       /* reads after a revert */
 #define DATES 32u       /* reads that are only compared */
+#define NAMES 8u        /* names of the batch that is only compared */
 #define WEEK_ONE 32u    /* addresses that only the first week writes */
 #define POOL 4096u      /* addresses that the later weeks write */
 
@@ -28,9 +30,6 @@ _Noreturn void fail(const char *what)
 }
 
 /* ---- the library and the plain implementation, each on its own copy of the tables */
-
-typedef uint32_t batch_function(uint8_t *, size_t, uint8_t *, size_t, uint8_t *, size_t, uint8_t *, size_t, uint8_t *, size_t,
-    const uint8_t *, size_t, uint8_t *, size_t, uint64_t *, uint64_t *, uint64_t *);
 
 static void copy_areas(struct areas *to, const struct areas *from)
 {
@@ -54,7 +53,7 @@ static int same_areas(const struct areas *a, const struct areas *b)
 {
     return memcmp(a->head, b->head, sizeof a->head) == 0 && memcmp(a->branches, b->branches, a->branches_len) == 0
         && memcmp(a->records, b->records, a->records_len) == 0 && memcmp(a->places, b->places, a->places_len) == 0
-        && memcmp(a->slab, b->slab, a->slab_len) == 0;
+        && memcmp(a->names, b->names, sizeof a->names) == 0 && memcmp(a->slab, b->slab, a->slab_len) == 0;
 }
 
 static struct areas of_library, of_plain, left_by_library;
@@ -62,8 +61,9 @@ static struct areas of_library, of_plain, left_by_library;
 static size_t run_batch(batch_function *f, struct areas *s, const uint8_t *batch, size_t batch_len, uint8_t *answers, size_t answers_len)
 {
     uint64_t answered, taken, sent;
-    uint32_t stop = f(s->head, 20, s->branches, s->branches_len, s->records, s->records_len, s->places, s->places_len, s->slab,
-        s->slab_len, batch, batch_len, answers, answers_len, &answered, &taken, &sent);
+    uint32_t stop = f(s->head, sizeof s->head, s->branches, s->branches_len, s->records, s->records_len, s->places,
+        s->places_len, s->names, sizeof s->names, s->slab, s->slab_len, batch, batch_len, answers, answers_len, &answered, &taken,
+        &sent);
     if (stop != 0 || taken != batch_len) {
         fprintf(stderr, "bench: stop %u after %llu requests\n", (unsigned)stop, (unsigned long long)answered);
         exit(1);
@@ -139,8 +139,8 @@ static void make(struct made *s, enum shape shape, uint32_t n, uint32_t b)
     s->areas.records = room(s->areas.records_len = 12 * (size_t)n);
     s->areas.places = room(s->areas.places_len = 4 * (size_t)n);
     s->areas.slab = room(s->areas.slab_len = PAGE * (size_t)n);
-    const uint32_t head[5] = {65536, rows, count, s->now, 0};
-    for (int i = 0; i < 5; i++)
+    const uint32_t head[6] = {65536, rows, count, s->now, 0, 0};
+    for (int i = 0; i < 6; i++)
         put32(s->areas.head + 4 * i, head[i]);
     for (uint32_t k = 0; k < rows; k++) {
         uint8_t *p = s->areas.branches + 12 * k;
@@ -193,14 +193,14 @@ static void make(struct made *s, enum shape shape, uint32_t n, uint32_t b)
     s->span = shape == DISTINCT ? count : shape == ONE ? GROUP : WEEK_ONE + POOL;
 }
 
-/* ---- the batches that are timed, one after the other on the same store, and behind them one that is only compared: the timed
-   reads find pages of moment 0 alone, and a date that is always 0 would pass */
+/* ---- the batches that are timed, one after the other on the same store, and behind them two that are only compared: the timed
+   reads find pages of moment 0 alone, and a date that is always 0 would pass; and no store that is timed has a name */
 
-enum operation { OP_READS, OP_SINGLE, OP_REVERT, OP_GROUP, OP_RECLAIM, OPS, OP_DATES = OPS, BATCHES };
+enum operation { OP_READS, OP_SINGLE, OP_REVERT, OP_GROUP, OP_RECLAIM, OPS, OP_DATES = OPS, OP_NAMES, BATCHES };
 static const char *const op_names[] = {
     "a read, of 1,024 in a batch", "a batch of one read", "a revert and 32 reads", "mark and 300 writes", "reclaim"};
 static const char *const op_short[] = {
-    "read", "one-request batch", "revert and 32 reads", "mark and 300 writes", "reclaim", "pages of many dates"};
+    "read", "one-request batch", "revert and 32 reads", "mark and 300 writes", "reclaim", "pages of many dates", "names"};
 
 static uint8_t *put_request(uint8_t *p, unsigned operation, uint32_t address, uint32_t moment)
 {
@@ -240,6 +240,33 @@ static uint8_t *put_dates(const struct made *s, uint8_t *p)
     return p;
 }
 
+static uint8_t *put_named(uint8_t *p, unsigned operation, uint32_t moment, uint32_t name)
+{
+    p = put_request(p, operation, 0, moment);
+    put32(p, name);
+    put32(p + 4, ~name);
+    return p + KIZMOOLET_NAME_BYTES;
+}
+
+/* Names for moments from the floor on; a reclaim to the last moment, and reads at the named ones; then half of the names are
+   withdrawn, and so again. */
+static uint8_t *put_names(const struct made *s, uint8_t *p)
+{
+    uint32_t last = s->now + 3, step = (last - s->middle) / NAMES;
+    for (uint32_t k = 0; k < NAMES; k++)
+        p = put_named(p, GIVE, s->middle + k * step, k);
+    for (uint32_t first = 0; first < NAMES; first += NAMES / 2) {
+        p = put_request(p, RECLAIM, 0, last);
+        for (uint32_t i = 0; i < DATES; i++) {
+            uint32_t address = i % 2 == 0 ? group_address(s, i * (GROUP / DATES)) : read_address(s, i);
+            p = put_request(p, READ, address, s->middle + (first + i / 2 % (NAMES - first)) * step);
+        }
+        for (uint32_t k = 0; k < NAMES / 2; k++)
+            p = put_named(p, WITHDRAW, 0, first + k);
+    }
+    return put_request(p, RECLAIM, 0, last);
+}
+
 static size_t make_batch(const struct made *s, enum operation op, int slow, uint8_t *batch)
 {
     uint8_t *p = batch;
@@ -267,8 +294,11 @@ static size_t make_batch(const struct made *s, enum operation op, int slow, uint
     case OP_RECLAIM:
         p = put_request(p, RECLAIM, 0, s->middle);
         break;
-    default:
+    case OP_DATES:
         p = put_dates(s, p);
+        break;
+    default:
+        p = put_names(s, p);
     }
     return (size_t)(p - batch);
 }

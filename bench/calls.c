@@ -1,6 +1,6 @@
 /* Times a call by itself: refused calls, an empty batch, batches of one request, a fresh store; beside each, in the same run, a
-   memcpy of head and tables. Prints tables in Markdown. Built with BEFORE, it times an earlier archive too, whose functions are
-   renamed before_fresh and before_batch; its answers may be those of a version without dates. Times are of the processor, not
+   memcpy of head and tables (names included). Prints tables in Markdown. Built with BEFORE, it times an earlier archive too, whose functions are
+   renamed before_fresh and before_batch; its answers may be those of a version without dates, its areas those of one without names. Times are of the processor, not
    of the clock.
    usage: calls [REPETITIONS]        by default 41, an odd number up to 201 */
 #define _POSIX_C_SOURCE 200809L
@@ -8,6 +8,7 @@
 #include <stdlib.h>
 #include <string.h>
 #include <time.h>
+#include "before.h"
 #include "kizmoolet.h"
 #include "kizmoolet_requests.h"
 
@@ -29,7 +30,7 @@ static void *room(size_t bytes)
 
 struct store {
     uint8_t head[KIZMOOLET_HEAD_BYTES];
-    uint8_t *branches, *records, *places, *slab, *copy; /* branches, records and places stand in one piece */
+    uint8_t *branches, *records, *places, *names, *slab, *copy; /* branches, records, places and names stand in one piece */
     size_t branches_len, records_len, places_len, slab_len;
 };
 
@@ -49,6 +50,11 @@ static uint32_t drawn(uint32_t below)
     return (uint32_t)((drawn_from >> 33) % below);
 }
 
+static size_t tables_of(const struct store *s)
+{
+    return s->branches_len + s->records_len + s->places_len + KIZMOOLET_NAMES_BYTES;
+}
+
 #define MOMENTS 16u /* of a branch */
 
 /* A store of these rows; with all rows in use, each record at an address of its own, at any moment and in any place. */
@@ -58,20 +64,21 @@ static void make(struct store *s, uint32_t pages, uint32_t branches, uint32_t re
     s->records_len = (size_t)KIZMOOLET_RECORD_BYTES * records;
     s->places_len = (size_t)KIZMOOLET_PLACE_BYTES * records;
     s->slab_len = (size_t)KIZMOOLET_PAGE_BYTES * records;
-    s->branches = room(s->branches_len + s->records_len + s->places_len);
+    s->branches = room(tables_of(s));
     s->records = s->branches + s->branches_len;
     s->places = s->records + s->records_len;
-    s->copy = room(KIZMOOLET_HEAD_BYTES + s->branches_len + s->records_len + s->places_len);
+    s->names = s->places + s->places_len;
+    s->copy = room(KIZMOOLET_HEAD_BYTES + tables_of(s));
     s->slab = room(s->slab_len);
     memset(s->slab, 0x5A, s->slab_len);
     if (kizmoolet_fresh(pages, s->head, sizeof s->head, s->branches, s->branches_len, s->records, s->records_len, s->places,
-            s->places_len, s->slab, s->slab_len))
+            s->places_len, s->names, KIZMOOLET_NAMES_BYTES, s->slab, s->slab_len))
         fail("no fresh store");
     if (!used)
         return;
     uint32_t now = branches * MOMENTS - 1;
-    const uint32_t head[5] = {pages, branches, records, now, 0};
-    for (int i = 0; i < 5; i++)
+    const uint32_t head[6] = {pages, branches, records, now, 0, 0};
+    for (int i = 0; i < 6; i++)
         put_number(s->head + 4 * i, head[i]);
     for (uint32_t k = 0; k < branches; k++) {
         uint8_t *p = s->branches + (size_t)KIZMOOLET_BRANCH_BYTES * k;
@@ -97,21 +104,14 @@ static void make(struct store *s, uint32_t pages, uint32_t branches, uint32_t re
 
 /* ---- what is timed */
 
-typedef uint32_t fresh_function(uint32_t, uint8_t *, size_t, uint8_t *, size_t, uint8_t *, size_t, uint8_t *, size_t,
-    const uint8_t *, size_t);
-typedef uint32_t batch_function(uint8_t *, size_t, uint8_t *, size_t, uint8_t *, size_t, uint8_t *, size_t, uint8_t *, size_t,
-    const uint8_t *, size_t, uint8_t *, size_t, uint64_t *, uint64_t *, uint64_t *);
-
 struct library {
     fresh_function *fresh;
     batch_function *batch;
 };
 
 #ifdef BEFORE
-fresh_function before_fresh;
-batch_function before_batch;
 #define LIBRARIES 2
-static const struct library libraries[LIBRARIES] = {{kizmoolet_fresh, kizmoolet_batch}, {before_fresh, before_batch}};
+static const struct library libraries[LIBRARIES] = {{kizmoolet_fresh, kizmoolet_batch}, {earlier_fresh, earlier_batch}};
 #else
 #define LIBRARIES 1
 static const struct library libraries[LIBRARIES] = {{kizmoolet_fresh, kizmoolet_batch}};
@@ -122,7 +122,7 @@ enum call { COPY, CLEAR, HEAD_LENGTH, FLOOR, FIRST_BRANCH, FIRST_RECORD, LAST_RE
 static const char *const names[CALLS] = {
     "memcpy of head and tables",
     "memset of 1,097,728 bytes, as many as the largest tables have",
-    "refused with 1: a head of 19 bytes",
+    "refused with 1: a head that is a byte too short",
     "refused with 1: floor above now",
     "refused with 2: the first branch row",
     "refused with 3: the first record row",
@@ -174,7 +174,7 @@ static uint32_t one_call(struct store *s, const struct library *with, enum call 
     switch (call) {
     case COPY:
         memcpy(s->copy, s->head, sizeof s->head);
-        memcpy(s->copy + sizeof s->head, s->branches, s->branches_len + s->records_len + s->places_len);
+        memcpy(s->copy + sizeof s->head, s->branches, tables_of(s));
         __asm__ volatile("" : : "r"(s->copy) : "memory");
         return 0;
     case CLEAR:
@@ -184,11 +184,11 @@ static uint32_t one_call(struct store *s, const struct library *with, enum call 
     case FRESH:
     case FRESH_SIZE:
         return with->fresh(call == FRESH ? 64 : 0, s->head, sizeof s->head, s->branches, s->branches_len, s->records,
-            s->records_len, s->places, s->places_len, s->slab, s->slab_len);
+            s->records_len, s->places, s->places_len, s->names, KIZMOOLET_NAMES_BYTES, s->slab, s->slab_len);
     default:
         return with->batch(s->head, head_len, s->branches, s->branches_len, s->records, s->records_len, s->places,
-            s->places_len, s->slab, s->slab_len, batch, batch_len, answers, sizeof answers, &answered, &request_bytes,
-            &answer_bytes);
+            s->places_len, s->names, KIZMOOLET_NAMES_BYTES, s->slab, s->slab_len, batch, batch_len, answers, sizeof answers,
+            &answered, &request_bytes, &answer_bytes);
     }
 }
 
@@ -226,7 +226,7 @@ static void time_call(struct store *s, size_t library, enum call call, int repet
     struct kizmoolet_requests requests = kizmoolet_requests_in(batch, sizeof batch);
     uint8_t *wrong = wrong_number(s, call);
     uint8_t *before = NULL;
-    size_t tables = s->branches_len + s->records_len + s->places_len;
+    size_t tables = tables_of(s);
     for (uint32_t i = 0; i < reads_of(call); i++) /* the first record, at its own moment */
         kizmoolet_add_read(&requests, kizmoolet_number_at(s->records), kizmoolet_number_at(s->records + 4));
     if (call == ONE_MARK)

@@ -1,11 +1,11 @@
-/* Which records a reclaim keeps, in a few searches a record. The moments that decide (the floor, and the starts above it) are
-   numbered so that those whose lookup comes by a moment have one span of numbers; records go from the last to the first,
+/* Which records a reclaim keeps, in a few searches a record. The moments that decide (the floor, the starts above it, and the
+   named ones) are numbered so that those whose lookup comes by a moment have one span of numbers; records go from the last to the first,
    and one is kept where its span has a number that no later record of its address has. */
 #include <stdlib.h>
 #include <string.h>
 #include "store.h"
 
-#define MOST 8192 /* events: 4,097 moments and 4,095 cuts */
+#define MOST 8224 /* events: 4,129 moments and 4,095 cuts */
 
 static uint64_t keys[MOST], taken[MOST];
 static uint32_t sums[MOST + 1], edges[4096], firsts[4096];
@@ -59,6 +59,8 @@ static void number_moments(const struct marking *m)
     for (size_t i = m->n; i-- > 0;)
         if (m->rows[i].start > m->floor)
             keys[events++] = (uint64_t)m->rows[i].start << 32;
+    for (size_t i = 0; i < m->named_count; i++)
+        keys[events++] = (uint64_t)m->named[i] << 32;
     for (size_t i = 1; i < m->n; i++)
         keys[events++] = (uint64_t)m->rows[i].cut << 32 | i;
     qsort(keys, events, sizeof *keys, falling);

@@ -1,6 +1,7 @@
-/* What a reclaim keeps. Branches: newest to oldest, one that ends at or above the floor, and the parent of a kept
-   one. Records by the slow method, an address at a time: those from the floor on, what the floor's own lookup gives, and
-   what is found at the start of each branch that begins above the floor. fast_marks.c has the fast method. */
+/* What a reclaim keeps. Branches: newest to oldest, one that ends at or above the floor or holds a named moment, and the
+   parent of a kept one. Records by the slow method, an address at a time: those from the floor on, what the lookups at the
+   floor and at the named moments give, and what is found at the start of each branch that begins above the floor.
+   fast_marks.c has the fast method. */
 #include "store.h"
 
 size_t row_holding(const struct branch *rows, size_t n, uint32_t moment)
@@ -24,6 +25,8 @@ void mark_branches(struct marking *m)
         if (i > 0)
             m->parent[i] = (uint32_t)row_holding(m->rows, i, m->rows[i].cut);
     }
+    for (size_t i = 0; i < m->named_count; i++)
+        m->kept[row_holding(m->rows, m->n, m->named[i])] = 1;
     for (size_t i = m->n; i-- > 0;)
         if (m->kept[i] || m->rows[i].end >= m->floor)
             m->kept[i] = m->kept[m->parent[i]] = 1;
@@ -43,6 +46,15 @@ static uint32_t latest(const uint32_t *moments, size_t count, uint32_t from, uin
     return lo > 0 && moments[lo - 1] >= from ? (uint32_t)lo : other;
 }
 
+/* What the lookup at a moment gives is kept. */
+static void mark_found(const struct marking *m, const uint32_t *moments, size_t count, uint32_t moment, uint8_t *kept)
+{
+    size_t at = row_holding(m->rows, m->n, moment);
+    uint32_t found = latest(moments, count, m->rows[at].start, moment, m->inherited[at]);
+    if (found)
+        kept[found - 1] = 1;
+}
+
 static void mark_group(struct marking *m, const uint32_t *moments, size_t count, uint8_t *kept)
 {
     for (size_t i = 0; i < count; i++)
@@ -54,13 +66,12 @@ static void mark_group(struct marking *m, const uint32_t *moments, size_t count,
         uint32_t p = m->parent[i];
         m->inherited[i] = latest(moments, count, m->rows[p].start, m->rows[i].cut, m->inherited[p]);
     }
-    size_t at = row_holding(m->rows, m->n, m->floor);
-    uint32_t found = latest(moments, count, m->rows[at].start, m->floor, m->inherited[at]);
-    if (found)
-        kept[found - 1] = 1;
+    mark_found(m, moments, count, m->floor, kept);
+    for (size_t i = 0; i < m->named_count; i++)
+        mark_found(m, moments, count, m->named[i], kept);
     for (size_t i = 0; i < m->n; i++)
         if (m->rows[i].start > m->floor) {
-            found = latest(moments, count, m->rows[i].start, m->rows[i].start, m->inherited[i]);
+            uint32_t found = latest(moments, count, m->rows[i].start, m->rows[i].start, m->inherited[i]);
             if (found)
                 kept[found - 1] = 1;
         }

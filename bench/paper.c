@@ -1,7 +1,9 @@
-/* (a) Document 004's own design on Berkeley DB, in memory: three B-trees and a repository device.
+/* (a) Document 004's own design on Berkeley DB, in memory: three B-trees and a repository device; and a fourth tree for names,
+   which the document does not have.
    branch table  key start of the branch (its number)   data end, parent's start, cut
    lpmap         key address, moment                    data place; the moment found is the page's date
    free extents  key first place                        data length
+   names         key the name's 8 bytes                 data moment
    Keys are four bytes a number, most significant first, so that their order is the numbers'. No table check, no
    refusals. `paper` looks up as Figure 1 has it, a search of the lpmap for each branch on the way; `paper_short` keeps
    the entry that the last search gave and searches again only where that one is above the parent's cut. */
@@ -10,7 +12,7 @@
 #include <string.h>
 #include "store.h"
 
-static DB *branches, *lpmap, *extents;
+static DB *branches, *lpmap, *extents, *names;
 static uint32_t now, current; /* the present moment, and the start of the current branch */
 static uint8_t *slab;
 
@@ -90,6 +92,7 @@ static void load(const struct areas *s)
     branches = tree();
     lpmap = tree();
     extents = tree();
+    names = tree();
     now = head_now(s);
     for (size_t i = 0; i < head_branches(s); i++) {
         struct branch b = branch_at(s, i);
@@ -110,6 +113,11 @@ static void load(const struct areas *s)
             put(extents, key, 4, data, 4);
         }
     }
+    for (size_t i = 0; i < head_names(s); i++) {
+        uint8_t row[12];
+        memcpy(row, s->names + 12 * i, sizeof row);
+        put(names, row, 8, row + 8, 4);
+    }
     slab = malloc(s->slab_len);
     if (!slab)
         fail("out of memory");
@@ -121,6 +129,7 @@ static void drop(void)
     ok(branches->close(branches, 0));
     ok(lpmap->close(lpmap, 0));
     ok(extents->close(extents, 0));
+    ok(names->close(names, 0));
     free(slab);
 }
 
@@ -204,6 +213,42 @@ static void free_place(uint8_t *place)
     put(extents, place, 4, one, 4);
 }
 
+static void give(const uint8_t *name, uint32_t moment)
+{
+    uint8_t key[8], data[4];
+    memcpy(key, name, sizeof key);
+    put32(data, moment);
+    put(names, key, 8, data, 4);
+}
+
+/* The name's moment; the name is gone. */
+static uint32_t withdraw(const uint8_t *name)
+{
+    uint8_t key[8], data[4];
+    memcpy(key, name, sizeof key);
+    DBT k = dbt(key, 8), d = dbt(data, 4);
+    ok(names->get(names, NULL, &k, &d, 0));
+    ok(names->del(names, NULL, &k, 0));
+    return get32(data);
+}
+
+/* The named moments. */
+static size_t named_moments(uint32_t *moments)
+{
+    DBC *c;
+    uint8_t key[8], data[4];
+    DBT k = dbt(key, 8), d = dbt(data, 4);
+    size_t n = 0;
+    int code;
+    ok(names->cursor(names, NULL, &c, 0));
+    while ((code = c->get(c, &k, &d, DB_NEXT)) == 0)
+        moments[n++] = get32(data);
+    if (code != DB_NOTFOUND)
+        ok(code);
+    ok(c->close(c));
+    return n;
+}
+
 /* Document 004, 3.2.3: a scan of the lpmap; the branch table is held in an array meanwhile, and rows are deleted after the scan. */
 static uint32_t reclaim(uint32_t floor)
 {
@@ -222,6 +267,7 @@ static uint32_t reclaim(uint32_t floor)
     if (code != DB_NOTFOUND)
         ok(code);
     ok(c->close(c));
+    m.named_count = named_moments(m.named);
     mark_branches(&m);
 
     uint32_t freed = 0;
@@ -262,14 +308,14 @@ static size_t run_with(const uint8_t *batch, size_t batch_len, uint8_t *answers,
     uint8_t *out = answers;
     DBC *c;
     ok(lpmap->cursor(lpmap, NULL, &c, 0));
-    for (size_t at = 0; at < batch_len; at += 7) {
-        struct request q = request_at(batch + at);
+    struct request q;
+    for (size_t at = 0; at < batch_len; at += request_bytes(q.operation)) {
         uint32_t number = now;
         struct found found = NOTHING;
+        q = request_at(batch + at);
         switch (q.operation) {
         case WRITE:
             write_page(q.address, batch + at + 7);
-            at += PAGE;
             break;
         case MARK:
             now++;
@@ -283,6 +329,12 @@ static size_t run_with(const uint8_t *batch, size_t batch_len, uint8_t *answers,
             break;
         case RECLAIM:
             number = reclaim(q.moment);
+            break;
+        case GIVE:
+            give(batch + at + 7, number = q.moment);
+            break;
+        case WITHDRAW:
+            number = withdraw(batch + at + 7);
             break;
         }
         out = put_answer(out, 0, number, found);

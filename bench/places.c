@@ -1,5 +1,5 @@
 /* Times batches by how far their writes look for a free place: the library, plain C (plain.c) and, where BEFORE is defined, an
-   earlier library whose entries are renamed before_fresh and before_batch. Answers and all five areas are compared byte for byte
+   earlier library whose entries are renamed before_fresh and before_batch. Answers and all six areas are compared byte for byte
    after every batch, and once for each row of a table with what is due: each write in the smallest free place, looked for from
    the first one on. Times are of the processor, not of the clock.
    usage: places [REPETITIONS]      an odd number up to 201, by default 41 */
@@ -7,7 +7,6 @@
 #include <stdio.h>
 #include <stdlib.h>
 #include <string.h>
-#include <time.h>
 #include "kizmoolet.h"
 #include "kizmoolet_requests.h"
 #include "store.h"
@@ -110,8 +109,8 @@ static void make(struct areas *s, const struct work *w)
     s->records = room(s->records_len);
     s->places = room(s->places_len);
     s->slab = room(s->slab_len);
-    const uint32_t head[5] = {z->pages, z->branches, w->used, z->branches * MOMENTS - 1, 0};
-    for (int i = 0; i < 5; i++)
+    const uint32_t head[6] = {z->pages, z->branches, w->used, z->branches * MOMENTS - 1, 0, 0};
+    for (int i = 0; i < 6; i++)
         put32(s->head + 4 * i, head[i]);
     for (uint32_t k = 0; k < z->branches; k++) {
         uint8_t *p = s->branches + 12 * (size_t)k;
@@ -124,30 +123,6 @@ static void make(struct areas *s, const struct work *w)
         memset(s->slab + PAGE * (size_t)i, (int)(i % 251), PAGE);
         put32(s->slab + PAGE * (size_t)i, i);
     }
-}
-
-static void copy_areas(struct areas *to, const struct areas *from)
-{
-    memcpy(to->slab, from->slab, from->slab_len);
-    memcpy(to->branches, from->branches, from->branches_len);
-    memcpy(to->records, from->records, from->records_len);
-    memcpy(to->places, from->places, from->places_len);
-    memcpy(to->head, from->head, sizeof to->head);
-}
-
-static int same_areas(const struct areas *a, const struct areas *b)
-{
-    return memcmp(a->head, b->head, sizeof a->head) == 0 && memcmp(a->branches, b->branches, a->branches_len) == 0
-        && memcmp(a->records, b->records, a->records_len) == 0 && memcmp(a->places, b->places, a->places_len) == 0
-        && memcmp(a->slab, b->slab, a->slab_len) == 0;
-}
-
-static void free_areas(struct areas *s)
-{
-    free(s->branches);
-    free(s->records);
-    free(s->places);
-    free(s->slab);
 }
 
 /* ---- batches */
@@ -329,57 +304,9 @@ static int as_named(const struct work *w, const struct due *d)
 
 /* ---- timing */
 
-typedef uint32_t batch_function(uint8_t *, size_t, uint8_t *, size_t, uint8_t *, size_t, uint8_t *, size_t, uint8_t *, size_t,
-    const uint8_t *, size_t, uint8_t *, size_t, uint64_t *, uint64_t *, uint64_t *);
-batch_function before_batch;
-
-#ifdef BEFORE
-enum { LIBRARY, PLAIN, EARLIER, CONTENDERS };
-static batch_function *const contenders[CONTENDERS] = {kizmoolet_batch, plain_batch, before_batch};
-#else
-enum { LIBRARY, PLAIN, CONTENDERS };
-static batch_function *const contenders[CONTENDERS] = {kizmoolet_batch, plain_batch};
-#endif
-
-#define MOST_REPETITIONS 201
-static double times[CONTENDERS][MOST_REPETITIONS];
-
-/* The store that a batch finds, the one it works on, the one that the library left the first time; the same for the answers. */
-static struct areas found, used, left;
-static uint8_t batch[MOST_GROUP * (KIZMOOLET_WRITE_BYTES + 2 * KIZMOOLET_REQUEST_BYTES)];
-static uint8_t answers[MOST_GROUP * KIZMOOLET_PAGE_ANSWER_BYTES], answers_left[sizeof answers];
-static size_t batch_len;
-static uint64_t answered, answer_bytes, answered_left, answer_bytes_left;
-
-static double seconds(void)
-{
-    struct timespec t;
-    clock_gettime(CLOCK_PROCESS_CPUTIME_ID, &t);
-    return (double)t.tv_sec + 1e-9 * (double)t.tv_nsec;
-}
-
-/* One batch on the store as it was found. */
-static double time_batch(batch_function *f)
-{
-    uint64_t taken;
-    copy_areas(&used, &found);
-    memset(answers, 0xA5, sizeof answers);
-    double began = seconds();
-    uint32_t stop = f(used.head, sizeof used.head, used.branches, used.branches_len, used.records, used.records_len, used.places,
-        used.places_len, used.slab, used.slab_len, batch, batch_len, answers, sizeof answers, &answered, &taken, &answer_bytes);
-    double took = seconds() - began;
-    if (stop != 0 || taken != batch_len)
-        fail("a batch was not carried out to its end");
-    return took;
-}
-
-static void compare(void)
-{
-    if (answered != answered_left || answer_bytes != answer_bytes_left || memcmp(answers, answers_left, sizeof answers) != 0)
-        fail("two contenders give different answers");
-    if (!same_areas(&used, &left))
-        fail("two contenders leave different stores");
-}
+#define BATCH_BYTES (MOST_GROUP * (KIZMOOLET_WRITE_BYTES + 2 * KIZMOOLET_REQUEST_BYTES))
+#define ANSWERS_BYTES (MOST_GROUP * KIZMOOLET_PAGE_ANSWER_BYTES)
+#include "turns.h"
 
 /* The library's first batch: compared with what is due, and kept to compare the others with. */
 static struct due first_batch(const struct work *w)
@@ -398,44 +325,26 @@ static struct due first_batch(const struct work *w)
         fail("a write is not in the smallest free place, or the store is not the one due");
     if (!as_named(w, &d))
         fail(names[w->kind]);
-    copy_areas(&left, &used);
-    memcpy(answers_left, answers, sizeof answers);
-    answered_left = answered;
-    answer_bytes_left = answer_bytes;
+    keep_first();
     free(d.rows);
     free(d.pages);
     free(d.taken);
     return d;
 }
 
-static int by_value(const void *x, const void *y)
-{
-    double a = *(const double *)x, b = *(const double *)y;
-    return a < b ? -1 : a > b;
-}
-
-/* Three digits of a time. */
-static void print_time(double t)
-{
-    double x = t * (t < 1e-3 ? 1e6 : 1e3);
-    printf(" %.*f %s |", x < 10 ? 2 : x < 100 ? 1 : 0, x, t < 1e-3 ? "µs" : "ms");
-}
-
 static void print_row(const struct work *w, const struct due *d, int repetitions)
 {
     double middle[CONTENDERS];
     printf("| %s | %u | %u | %llu |", names[w->kind], (unsigned)answered_left, (unsigned)w->used, (unsigned long long)d->passed);
-    for (int c = 0; c < CONTENDERS; c++) {
-        qsort(times[c], (size_t)repetitions, sizeof times[c][0], by_value);
-        print_time(middle[c] = times[c][repetitions / 2]);
-    }
+    for (int c = 0; c < CONTENDERS; c++)
+        print_time(middle[c] = median_of(c, repetitions));
     for (int c = 1; c < CONTENDERS; c++)
         printf(" %.2f |", middle[c] / middle[LIBRARY]);
     printf("\n");
     fflush(stdout);
 }
 
-/* A row of a table: the contenders take turns; what is short is run several times a turn. */
+/* A row of a table. */
 static void time_work(const struct work *w, int repetitions)
 {
     make(&found, w);
@@ -443,22 +352,9 @@ static void time_work(const struct work *w, int repetitions)
     make(&left, w);
     batch_len = make_batch(w, &found, batch, sizeof batch);
     struct due d = first_batch(w);
-    double once = time_batch(contenders[LIBRARY]);
-    int runs = once < 5e-4 ? (int)(5e-4 / (once + 1e-6)) + 1 : 1;
-    compare();
-    for (int r = 0; r < repetitions; r++)
-        for (int turn = 0; turn < CONTENDERS; turn++) {
-            int c = (turn + r) % CONTENDERS;
-            times[c][r] = 0;
-            for (int run = 0; run < runs; run++) {
-                times[c][r] += time_batch(contenders[c]) / runs;
-                compare();
-            }
-        }
+    take_turns(CONTENDERS, repetitions);
     print_row(w, &d, repetitions);
-    free_areas(&found);
-    free_areas(&used);
-    free_areas(&left);
+    free_stores();
 }
 
 static void time_size(const struct size *z, int repetitions)
@@ -478,9 +374,7 @@ static void time_size(const struct size *z, int repetitions)
 
 int main(int argc, char **argv)
 {
-    int repetitions = argc > 1 ? atoi(argv[1]) : 41;
-    if (repetitions < 1 || repetitions > MOST_REPETITIONS || repetitions % 2 == 0)
-        fail("repetitions are an odd number, 1 to 201");
+    int repetitions = repetitions_of(argc, argv);
     for (size_t i = 0; i < sizeof sizes / sizeof *sizes; i++)
         time_size(&sizes[i], repetitions);
     return 0;

@@ -34,15 +34,36 @@ static int held(const struct areas *s, size_t n, uint32_t moment)
     return lo < n && get32(s->branches + 12 * lo) <= moment;
 }
 
-static unsigned check(const struct areas *s, size_t head_len)
+/* Which counted row has this name; the count where none has. */
+static size_t row_called(const struct areas *s, struct name x)
+{
+    size_t i = 0, n = head_names(s);
+    while (i < n && (name_at(s, i).high != x.high || name_at(s, i).low != x.low))
+        i++;
+    return i;
+}
+
+/* The names of check 2. */
+static int names_sound(const struct areas *s)
+{
+    for (size_t i = 0; i < head_names(s); i++) {
+        struct name x = name_at(s, i);
+        if (row_called(s, x) != i || x.moment >= head_now(s) || !held(s, head_branches(s), x.moment))
+            return 0;
+    }
+    return 1;
+}
+
+static unsigned check(const struct areas *s)
 {
     size_t b = s->branches_len / 12, r = s->records_len / 12, p = s->places_len / 4;
-    if (head_len != 20 || s->branches_len % 12 || s->records_len % 12 || s->places_len % 4)
+    if (s->branches_len % 12 || s->records_len % 12 || s->places_len % 4)
         return 1;
     if (b < 1 || b > 4096 || r < 1 || r > 65536 || p < 1 || p > 65536 || s->slab_len != PAGE * p)
         return 1;
     uint32_t size = head_size(s), nb = head_branches(s), nr = head_records(s), now = head_now(s), floor = head_floor(s);
-    if (size < 1 || size > 65536 || nb < 1 || nb > b || nr > r || floor > now)
+    if (size < 1 || size > 65536 || nb < 1 || nb > b || nr > r || floor > now
+        || head_names(s) > KIZMOOLET_MOST_NAMES)
         return 1;
 
     struct branch before = branch_at(s, 0);
@@ -58,7 +79,7 @@ static unsigned check(const struct areas *s, size_t head_len)
             return 2;
         before = x;
     }
-    if (before.end != OPEN_END || before.start > now)
+    if (before.end != OPEN_END || before.start > now || !names_sound(s))
         return 2;
 
     struct record last = {0, 0, 0};
@@ -148,11 +169,20 @@ static unsigned write_page(struct areas *s, size_t *from, uint32_t address, cons
     return 0;
 }
 
+/* From the floor on, or named. */
+static int readable(const struct areas *s, uint32_t moment)
+{
+    int is = moment >= head_floor(s);
+    for (size_t i = 0; !is && i < head_names(s); i++)
+        is = name_at(s, i).moment == moment;
+    return is;
+}
+
 static unsigned revert(struct areas *s, uint32_t moment)
 {
     uint32_t now = head_now(s);
     size_t n = head_branches(s);
-    if (moment < head_floor(s))
+    if (!readable(s, moment))
         return 8;
     if (moment >= now)
         return 9;
@@ -181,6 +211,9 @@ static unsigned reclaim(struct areas *s, uint32_t floor, uint32_t *freed)
     m.floor = floor;
     for (size_t i = 0; i < m.n; i++)
         m.rows[i] = branch_at(s, i);
+    m.named_count = head_names(s);
+    for (size_t i = 0; i < m.named_count; i++)
+        m.named[i] = name_at(s, i).moment;
     mark_branches(&m);
     for (size_t i = 0; i < n; i++) {
         addresses[i] = get32(s->records + 12 * i);
@@ -206,34 +239,66 @@ static unsigned reclaim(struct areas *s, uint32_t floor, uint32_t *freed)
     return 0;
 }
 
+static unsigned give(struct areas *s, struct name x)
+{
+    size_t n = head_names(s);
+    if (!readable(s, x.moment))
+        return 8;
+    if (x.moment >= head_now(s))
+        return 9;
+    if (row_called(s, x) < n)
+        return 15;
+    if (n == KIZMOOLET_MOST_NAMES)
+        return 16;
+    put32(s->names + 12 * n, x.high);
+    put32(s->names + 12 * n + 4, x.low);
+    put32(s->names + 12 * n + 8, x.moment);
+    put32(s->head + 20, (uint32_t)n + 1);
+    return 0;
+}
+
+/* The later names close up, and the row that becomes free is zero. */
+static unsigned withdraw(struct areas *s, struct name x, uint32_t *moment)
+{
+    size_t n = head_names(s), at = row_called(s, x);
+    if (at == n)
+        return 17;
+    *moment = name_at(s, at).moment;
+    memmove(s->names + 12 * at, s->names + 12 * (at + 1), 12 * (n - 1 - at));
+    memset(s->names + 12 * (n - 1), 0, 12);
+    put32(s->head + 20, (uint32_t)n - 1);
+    return 0;
+}
+
 /* The stop number of what stands at the front of the input, 0 for a request. */
 static unsigned unreadable(const uint8_t *p, size_t left, struct request *q)
 {
     if (left < 7)
         return 11;
     *q = request_at(p);
-    if (q->operation < WRITE || q->operation > RECLAIM)
+    if (q->operation < WRITE)
         return 12;
     uint32_t unused = q->spare;
     if (q->operation != WRITE && q->operation != READ)
         unused |= q->address;
-    if (q->operation == WRITE || q->operation == MARK)
+    if (q->operation == WRITE || q->operation == MARK || q->operation == WITHDRAW)
         unused |= q->moment;
     if (unused)
         return 13;
-    return q->operation == WRITE && left < 7 + PAGE ? 11 : 0;
+    return left < request_bytes(q->operation) ? 11 : 0;
 }
 
 uint32_t plain_batch(uint8_t *head, size_t head_len, uint8_t *branches, size_t branches_len, uint8_t *records, size_t records_len,
-    uint8_t *places, size_t places_len, uint8_t *slab, size_t slab_len, const uint8_t *batch, size_t batch_len,
-    uint8_t *answers, size_t answers_len, uint64_t *answered, uint64_t *request_bytes, uint64_t *answer_bytes)
+    uint8_t *places, size_t places_len, uint8_t *names, size_t names_len, uint8_t *slab, size_t slab_len, const uint8_t *batch,
+    size_t batch_len, uint8_t *answers, size_t answers_len, uint64_t *answered, uint64_t *taken, uint64_t *sent)
 {
-    struct areas s = {{0}, branches, records, places, slab, branches_len, records_len, places_len, slab_len};
-    *answered = *request_bytes = *answer_bytes = 0;
-    if (head_len != 20)
+    struct areas s = {{0}, {0}, branches, records, places, slab, branches_len, records_len, places_len, slab_len};
+    *answered = *taken = *sent = 0;
+    if (head_len != sizeof s.head || names_len != sizeof s.names)
         return 1;
-    memcpy(s.head, head, 20);
-    unsigned stop = check(&s, head_len);
+    memcpy(s.head, head, sizeof s.head);
+    memcpy(s.names, names, sizeof s.names);
+    unsigned stop = check(&s);
     if (stop)
         return stop;
     size_t at = 0, out = 0, from = 0; /* no place below `from` is free */
@@ -266,7 +331,7 @@ uint32_t plain_batch(uint8_t *head, size_t head_len, uint8_t *branches, size_t b
             number = q.moment;
             if (q.address >= head_size(&s))
                 refusal = 4;
-            else if (q.moment < head_floor(&s))
+            else if (!readable(&s, q.moment))
                 refusal = 8;
             else if (q.moment > now)
                 refusal = 9;
@@ -277,17 +342,25 @@ uint32_t plain_batch(uint8_t *head, size_t head_len, uint8_t *branches, size_t b
             refusal = reclaim(&s, q.moment, &number);
             from = 0;
             break;
+        case GIVE:
+            number = q.moment;
+            refusal = give(&s, name_in(batch + at, q.moment));
+            break;
+        case WITHDRAW:
+            refusal = withdraw(&s, name_in(batch + at, 0), &number);
+            break;
         }
         if (found.page && answers_len - out < KIZMOOLET_PAGE_ANSWER_BYTES) {
             stop = 14;
             break;
         }
         out = (size_t)(put_answer(answers + out, refusal, refusal ? 0 : number, found) - answers);
-        at += q.operation == WRITE ? 7 + PAGE : 7;
+        at += request_bytes(q.operation);
         ++*answered;
     }
-    memcpy(head, s.head, 20);
-    *request_bytes = at;
-    *answer_bytes = out;
+    memcpy(head, s.head, sizeof s.head);
+    memcpy(names, s.names, sizeof s.names);
+    *taken = at;
+    *sent = out;
     return stop;
 }

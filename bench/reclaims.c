@@ -6,12 +6,9 @@
 #include <stdlib.h>
 #include <string.h>
 #include <time.h>
+#include "before.h"
 #include "kizmoolet.h"
 #include "store.h"
-
-typedef uint32_t batch_function(uint8_t *, size_t, uint8_t *, size_t, uint8_t *, size_t, uint8_t *, size_t, uint8_t *, size_t,
-    const uint8_t *, size_t, uint8_t *, size_t, uint64_t *, uint64_t *, uint64_t *);
-batch_function before_batch;
 
 _Noreturn void fail(const char *what)
 {
@@ -101,8 +98,8 @@ static void make(struct areas *s, enum shape shape, uint32_t n, uint32_t b, uint
         put32(s->places + 4 * (size_t)place, i + 1);
     }
     free(r);
-    const uint32_t head[5] = {65536, b, count, b * width - 1, 0};
-    for (int i = 0; i < 5; i++)
+    const uint32_t head[6] = {65536, b, count, b * width - 1, 0, 0};
+    for (int i = 0; i < 6; i++)
         put32(s->head + 4 * i, head[i]);
     *floor = shape == YOUNG ? 0 : b / 2 * width;
 }
@@ -111,7 +108,7 @@ static void make(struct areas *s, enum shape shape, uint32_t n, uint32_t b, uint
 
 #ifdef BEFORE
 enum { LIBRARY, FAST, SLOW, EARLIER, CONTENDERS };
-static batch_function *const contenders[] = {kizmoolet_batch, plain_batch, plain_batch, before_batch};
+static batch_function *const contenders[] = {kizmoolet_batch, plain_batch, plain_batch, earlier_batch};
 #else
 enum { LIBRARY, FAST, SLOW, CONTENDERS };
 static batch_function *const contenders[] = {kizmoolet_batch, plain_batch, plain_batch};
@@ -140,21 +137,23 @@ static void print_time(double t)
 
 static uint8_t *joined(const struct areas *s, size_t *length)
 {
-    *length = 20 + s->branches_len + s->records_len + s->places_len;
+    *length = sizeof s->head + s->branches_len + s->records_len + s->places_len + sizeof s->names;
     uint8_t *p = room(*length), *q = p;
-    memcpy(q, s->head, 20);
-    memcpy(q += 20, s->branches, s->branches_len);
+    memcpy(q, s->head, sizeof s->head);
+    memcpy(q += sizeof s->head, s->branches, s->branches_len);
     memcpy(q += s->branches_len, s->records, s->records_len);
-    memcpy(q + s->records_len, s->places, s->places_len);
+    memcpy(q += s->records_len, s->places, s->places_len);
+    memcpy(q + s->places_len, s->names, sizeof s->names);
     return p;
 }
 
 static void restore(struct areas *s, const uint8_t *p)
 {
-    memcpy(s->head, p, 20);
-    memcpy(s->branches, p += 20, s->branches_len);
+    memcpy(s->head, p, sizeof s->head);
+    memcpy(s->branches, p += sizeof s->head, s->branches_len);
     memcpy(s->records, p += s->branches_len, s->records_len);
-    memcpy(s->places, p + s->records_len, s->places_len);
+    memcpy(s->places, p += s->records_len, s->places_len);
+    memcpy(s->names, p + s->places_len, sizeof s->names);
 }
 
 static void row(enum shape shape, uint32_t n, uint32_t b, int repetitions)
@@ -176,8 +175,8 @@ static void row(enum shape shape, uint32_t n, uint32_t b, int repetitions)
             restore(&s, first);
             marks_by_groups = c == SLOW;
             double t = seconds();
-            uint32_t stop = contenders[c](s.head, 20, s.branches, s.branches_len, s.records, s.records_len, s.places, s.places_len,
-                s.slab, s.slab_len, batch, 7, answers, sizeof answers, &answered, &taken, &sent);
+            uint32_t stop = contenders[c](s.head, sizeof s.head, s.branches, s.branches_len, s.records, s.records_len, s.places,
+                s.places_len, s.names, sizeof s.names, s.slab, s.slab_len, batch, 7, answers, sizeof answers, &answered, &taken, &sent);
             times[c * repetitions + r] = seconds() - t;
             if (stop != 0 || answered != 1 || sent != sizeof answers || answers[0] != 0)
                 fail("a reclaim was not accepted");

@@ -1,4 +1,4 @@
-/* (b) SQLite in memory: a table of branches, and a table (address, moment, page) with an index; the way up the branches
+/* (b) SQLite in memory: a table of branches, one of names, and a table (address, moment, page) with an index; the way up the branches
    is walked by two prepared queries a branch. A batch is one transaction. No table check, no refusals. */
 #include <sqlite3.h>
 #include <string.h>
@@ -6,7 +6,7 @@
 
 static sqlite3 *db;
 static sqlite3_stmt *begin, *commit, *holder, *latest, *put_record, *put_branch, *close_branch;
-static sqlite3_stmt *drop_record, *drop_branch, *all_branches, *all_records;
+static sqlite3_stmt *drop_record, *drop_branch, *all_branches, *all_records, *put_name, *moment_named, *drop_name, *all_names;
 static uint32_t now;
 
 static void ok(int code)
@@ -47,6 +47,31 @@ static void insert_branch(struct branch b)
     once(put_branch);
 }
 
+static void bind_name(sqlite3_stmt *q, const uint8_t *name)
+{
+    ok(sqlite3_bind_blob(q, 1, name, KIZMOOLET_NAME_BYTES, SQLITE_STATIC));
+}
+
+static void give(const uint8_t *name, uint32_t moment)
+{
+    bind_name(put_name, name);
+    bind(put_name, 2, moment);
+    once(put_name);
+}
+
+/* The name's moment; the name is gone. */
+static uint32_t withdraw(const uint8_t *name)
+{
+    bind_name(moment_named, name);
+    if (sqlite3_step(moment_named) != SQLITE_ROW)
+        fail("no such name");
+    uint32_t moment = column(moment_named, 0);
+    ok(sqlite3_reset(moment_named));
+    bind_name(drop_name, name);
+    once(drop_name);
+    return moment;
+}
+
 static void load(const struct areas *s)
 {
     if (sqlite3_open(":memory:", &db) != SQLITE_OK)
@@ -54,7 +79,8 @@ static void load(const struct areas *s)
     ok(sqlite3_exec(db,
         "create table branches (start integer primary key, last integer not null, cut integer not null);"
         "create table records (address integer not null, moment integer not null, page blob not null);"
-        "create unique index by_address on records (address, moment);",
+        "create unique index by_address on records (address, moment);"
+        "create table names (name blob primary key, moment integer not null);",
         NULL, NULL, NULL));
     begin = prepared("begin");
     commit = prepared("commit");
@@ -67,6 +93,10 @@ static void load(const struct areas *s)
     drop_branch = prepared("delete from branches where start = ?1");
     all_branches = prepared("select start, last, cut from branches order by start");
     all_records = prepared("select address, moment from records order by address, moment");
+    put_name = prepared("insert into names values (?1, ?2)");
+    moment_named = prepared("select moment from names where name = ?1");
+    drop_name = prepared("delete from names where name = ?1");
+    all_names = prepared("select moment from names");
     now = head_now(s);
     once(begin);
     for (size_t i = 0; i < head_branches(s); i++)
@@ -75,6 +105,8 @@ static void load(const struct areas *s)
         struct record r = record_at(s, i);
         insert_page(r.address, r.moment, s->slab + PAGE * r.place);
     }
+    for (size_t i = 0; i < head_names(s); i++)
+        give(s->names + 12 * i, name_at(s, i).moment);
     once(commit);
 }
 
@@ -119,6 +151,10 @@ static uint32_t reclaim(uint32_t floor)
     while (sqlite3_step(all_branches) == SQLITE_ROW)
         m.rows[m.n++] = (struct branch){column(all_branches, 0), column(all_branches, 1), column(all_branches, 2)};
     ok(sqlite3_reset(all_branches));
+    m.named_count = 0;
+    while (sqlite3_step(all_names) == SQLITE_ROW)
+        m.named[m.named_count++] = column(all_names, 0);
+    ok(sqlite3_reset(all_names));
     mark_branches(&m);
     size_t n = 0;
     while (sqlite3_step(all_records) == SQLITE_ROW) {
@@ -148,14 +184,14 @@ static size_t run(const uint8_t *batch, size_t batch_len, uint8_t *answers, size
     (void)answers_len;
     uint8_t *out = answers;
     once(begin);
-    for (size_t at = 0; at < batch_len; at += 7) {
-        struct request q = request_at(batch + at);
+    struct request q;
+    for (size_t at = 0; at < batch_len; at += request_bytes(q.operation)) {
         uint32_t number = now;
         struct found found = NOTHING;
+        q = request_at(batch + at);
         switch (q.operation) {
         case WRITE:
             insert_page(q.address, now, batch + at + 7);
-            at += PAGE;
             break;
         case MARK:
             now++;
@@ -171,6 +207,12 @@ static size_t run(const uint8_t *batch, size_t batch_len, uint8_t *answers, size
             break;
         case RECLAIM:
             number = reclaim(q.moment);
+            break;
+        case GIVE:
+            give(batch + at + 7, number = q.moment);
+            break;
+        case WITHDRAW:
+            number = withdraw(batch + at + 7);
             break;
         }
         out = put_answer(out, 0, number, found);

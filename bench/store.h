@@ -27,9 +27,12 @@ static inline void put32(uint8_t *p, uint32_t x)
 struct branch { uint32_t start, end, cut; };
 struct record { uint32_t address, moment, place; };
 
-/* Head, tables and slab as the C interface takes them. */
+/* A name's eight bytes, as two numbers, and its moment. */
+struct name { uint32_t high, low, moment; };
+
+/* Head, tables and slab as the C interface takes them; head and names have one length each. */
 struct areas {
-    uint8_t head[20];
+    uint8_t head[KIZMOOLET_HEAD_BYTES], names[KIZMOOLET_NAMES_BYTES];
     uint8_t *branches, *records, *places, *slab;
     size_t branches_len, records_len, places_len, slab_len;
 };
@@ -39,6 +42,7 @@ static inline uint32_t head_branches(const struct areas *s) { return get32(s->he
 static inline uint32_t head_records(const struct areas *s) { return get32(s->head + 8); }
 static inline uint32_t head_now(const struct areas *s) { return get32(s->head + 12); }
 static inline uint32_t head_floor(const struct areas *s) { return get32(s->head + 16); }
+static inline uint32_t head_names(const struct areas *s) { return get32(s->head + 20); }
 
 static inline struct branch branch_at(const struct areas *s, size_t i)
 {
@@ -52,8 +56,14 @@ static inline struct record record_at(const struct areas *s, size_t i)
     return (struct record){get32(p), get32(p + 4), get32(p + 8)};
 }
 
-/* A request as its seven bytes spell it. */
-enum { WRITE = 1, MARK = 2, REVERT = 3, READ = 4, RECLAIM = 5 };
+static inline struct name name_at(const struct areas *s, size_t i)
+{
+    const uint8_t *p = s->names + 12 * i;
+    return (struct name){get32(p), get32(p + 4), get32(p + 8)};
+}
+
+/* A request as its seven bytes spell it, and how many bytes it has with what follows it. */
+enum { WRITE = 1, MARK = 2, REVERT = 3, READ = 4, RECLAIM = 5, GIVE = 6, WITHDRAW = 7 };
 struct request { unsigned operation; uint32_t address, moment, spare; };
 
 static inline struct request request_at(const uint8_t *p)
@@ -62,6 +72,17 @@ static inline struct request request_at(const uint8_t *p)
     for (int i = 0; i < 7; i++)
         n = n << 8 | p[i];
     return (struct request){(unsigned)(n >> 53 & 7), (uint32_t)(n >> 37 & 65535), (uint32_t)(n >> 5), (uint32_t)(n & 31)};
+}
+
+static inline size_t request_bytes(unsigned operation)
+{
+    return operation == WRITE ? KIZMOOLET_WRITE_BYTES : operation >= GIVE ? KIZMOOLET_NAMED_BYTES : KIZMOOLET_REQUEST_BYTES;
+}
+
+/* The name that follows a request. */
+static inline struct name name_in(const uint8_t *p, uint32_t moment)
+{
+    return (struct name){get32(p + KIZMOOLET_REQUEST_BYTES), get32(p + KIZMOOLET_REQUEST_BYTES + 4), moment};
 }
 
 /* What a lookup gives: a page, NULL where there is none, and its date, the moment of the record that was found. */
@@ -96,20 +117,20 @@ extern const struct contender library, plain, paper, paper_short, sqlite;
 
 /* The plain implementation under the signature of kizmoolet_batch. */
 uint32_t plain_batch(uint8_t *head, size_t head_len, uint8_t *branches, size_t branches_len, uint8_t *records, size_t records_len,
-    uint8_t *places, size_t places_len, uint8_t *slab, size_t slab_len, const uint8_t *batch, size_t batch_len,
-    uint8_t *answers, size_t answers_len, uint64_t *answered, uint64_t *request_bytes, uint64_t *answer_bytes);
+    uint8_t *places, size_t places_len, uint8_t *names, size_t names_len, uint8_t *slab, size_t slab_len, const uint8_t *batch,
+    size_t batch_len, uint8_t *answers, size_t answers_len, uint64_t *answered, uint64_t *taken, uint64_t *sent);
 
 /* Which records and branches a reclaim keeps; shared by the three that the library is compared with. */
 struct marking {
-    size_t n;
-    uint32_t floor;
+    size_t n, named_count;
+    uint32_t floor, named[KIZMOOLET_MOST_NAMES];
     struct branch rows[4096];
     uint32_t parent[4096];
     uint8_t kept[4096];
     uint32_t inherited[4096];
 };
 size_t row_holding(const struct branch *rows, size_t n, uint32_t moment);
-void mark_branches(struct marking *m); /* from n, floor and rows: parent and kept */
+void mark_branches(struct marking *m); /* from n, floor, named moments and rows: parent and kept */
 /* Which of the records, in order of address and moment, are kept: by spans (fast_marks.c), or where `marks_by_groups` is set
    an address at a time (marks.c). */
 extern int marks_by_groups;

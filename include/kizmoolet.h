@@ -19,7 +19,7 @@
  * 4. KIZMOOLET_STACK_BYTES of stack are free: the tables' numbers stand there during the call. The usual 8 MB of a main
  *    thread are enough; a thread with a small stack is not.
  * 5. Head, tables and slab belong to the caller, who keeps them between calls as the last call left them, and passes the same
- *    five areas, with the same lengths, to the next. A copy of the five areas is a copy of the store; of the slab it needs the
+ *    six areas, with the same lengths, to the next. A copy of the six areas is a copy of the store; of the slab it needs the
  *    pages in use alone (below, PAGES PACKED TOWARDS THE FRONT).
  *
  * No other duty: wrong lengths and unsound contents are refused (1, 2, 3). A call that is refused so writes to no area; the three
@@ -41,16 +41,17 @@
  * 0.23 to 0.41 ms, 3.6 to 6.1 times; on small tables 25 to 33 us, about what it takes to clear the 1.1 MB of stack.
  *
  *
- * THE FIVE AREAS OF A STORE
+ * THE SIX AREAS OF A STORE
  *
  * Every number of head and tables is four bytes, most significant first.
  *
- *   head      20 bytes: volume size A (1 to 65,536), branch count, record count, now, floor. A batch brings it up to date.
- *             The floor is the earliest moment that can still be read.
+ *   head      24 bytes: volume size A (1 to 65,536), branch count, record count, now, floor, name count (0 to 32). A batch
+ *             brings it up to date. Moments from the floor to now can be read, and moments that have a name.
  *   branches  12 bytes a row, 1 to 4,096 rows: start, end, cut. Start and end are the first and last moment of the branch
  *             (the end of the open one is 4,294,967,295), the cut is the moment reverted to.
  *   records   12 bytes a row, 1 to 65,536 rows: address, moment, place. Ascending by address, then moment.
  *   places    4 bytes a row, 1 to 65,536 rows: 0 is free, k means that record row k - 1 (counted from 0) uses the place.
+ *   names     384 bytes, 32 rows of 12: the 8 bytes of a name, then the moment that it stands for. In the order given.
  *   slab      256 bytes for each place, no more and no fewer: the pages.
  *
  * The rows lent are the length of a table; the head's counts say how many of them are in use. A record is needed for each
@@ -67,7 +68,16 @@
  *
  * Head, tables and the slab up to that byte are a whole copy of the store: whatever bytes lie behind it, every read answers the
  * same. The areas of a copy may also be longer than those it was made from: with any bytes behind the branch and record rows,
- * and zeros behind the place rows.
+ * and zeros behind the place rows. Of the name rows, too, only the counted ones matter.
+ *
+ *
+ * COMMISSIONED STATES BY NAME
+ *
+ * A sealed moment that can be read can be given a name, at most 32 at a time; any 8 bytes are a name, and two names may stand for
+ * one moment. As long as a moment has a name it can be read, reverted to and named again, also below the floor, and every read at
+ * it answers as it did when the name was given: a reclaim keeps what such reads need. A reclaim to a moment below the floor is
+ * refused (8), named or not. A withdrawn name is gone at once: below the floor its moment can then no longer be read, and what was
+ * kept for it is freed by the next reclaim. Later names close up, in their order, and the row that becomes free is zero.
  *
  *
  * REQUESTS, one behind the other in a batch
@@ -82,7 +92,9 @@
  *   4 read     address, moment                         the page at that moment                 answer: the moment asked, and the
  *                                                                                              page with its date if there is one
  *   5 reclaim  moment                                  makes it the floor, frees what no read  answer: how many records it freed
- *                                                      from there to now gives
+ *                                                      from there to now, or at a name, gives
+ *   6 name     moment; the name's 8 bytes follow       gives the moment the name               answer: the moment
+ *   7 withdraw the name's 8 bytes follow               takes the name back                     answer: the moment it stood for
  *
  * ANSWERS, one behind the other in the answer area, in the order of the requests
  *
@@ -93,11 +105,11 @@
  *
  * THE NUMBERS
  *
- * The result of a call is 0 or the number of what refused or stopped it. 4 to 10 are never a result: they stand in a
- * request's answer, and the batch goes on. A refused request alters nothing.
+ * The result of a call is 0 or the number of what refused or stopped it. 4 to 10 and 15 to 17 are never a result: they stand in
+ * a request's answer, and the batch goes on. A refused request alters nothing.
  *
- * Where several apply: 1, 2, 3 in this order; of a request 11 (fewer than 7 bytes), 12, 13, 11 (page), then its own refusals
- * (write 4, 5, 6; read 4, 8, 9; revert 8, 9, 10, 7; reclaim 8, 9; mark 10), then 14.
+ * Where several apply: 1, 2, 3 in this order; of a request 11 (fewer than 7 bytes), 12, 13, 11 (page or name), then its own
+ * refusals (write 4, 5, 6; read 4, 8, 9; revert 8, 9, 10, 7; reclaim 8, 9; mark 10; name 8, 9, 15, 16; withdraw 17), then 14.
  */
 #ifndef KIZMOOLET_H
 #define KIZMOOLET_H
@@ -106,17 +118,17 @@
 #include <stdint.h>
 
 /* The version of this header and of the archive beside it; CHANGELOG.md says what changed. */
-#define KIZMOOLET_VERSION "0.2.1"
+#define KIZMOOLET_VERSION "0.3.0"
 #define KIZMOOLET_VERSION_MAJOR 0
-#define KIZMOOLET_VERSION_MINOR 2
-#define KIZMOOLET_VERSION_PATCH 1
+#define KIZMOOLET_VERSION_MINOR 3
+#define KIZMOOLET_VERSION_PATCH 0
 
 #define KIZMOOLET_OK 0u
 
 /* Result of kizmoolet_fresh (1) and kizmoolet_batch (1, 2, 3): nothing is written but the counts, which are zero. */
 #define KIZMOOLET_OUT_OF_RANGE 1u       /* head, counts or lengths outside their ranges, a table no whole number of rows, or
                                            floor above now */
-#define KIZMOOLET_BRANCHES_UNSOUND 2u   /* branch rows not sound */
+#define KIZMOOLET_BRANCHES_UNSOUND 2u   /* branch rows or names not sound */
 #define KIZMOOLET_RECORDS_UNSOUND 3u    /* records or places not sound */
 
 /* Refusal in an answer; the batch goes on. */
@@ -124,13 +136,17 @@
 #define KIZMOOLET_RECORDS_FULL 5u       /* write: it needs a row, and the record table is full */
 #define KIZMOOLET_PLACES_FULL 6u        /* write: it needs a place, and none is free */
 #define KIZMOOLET_BRANCHES_FULL 7u      /* revert: the branch table is full */
-#define KIZMOOLET_MOMENT_TOO_EARLY 8u   /* read, revert, reclaim: moment below the floor */
-#define KIZMOOLET_MOMENT_TOO_LATE 9u    /* read, reclaim: moment above now; revert: moment now or above */
+#define KIZMOOLET_MOMENT_TOO_EARLY 8u   /* read, revert, name: moment below the floor, and it has no name; reclaim: moment below the
+                                           floor */
+#define KIZMOOLET_MOMENT_TOO_LATE 9u    /* read, reclaim: moment above now; revert, name: moment now or above */
 #define KIZMOOLET_MOMENTS_USED_UP 10u   /* mark, revert: now is 4,294,967,295 */
+#define KIZMOOLET_NAME_IN_USE 15u       /* name: the name stands for a moment already, this one or another */
+#define KIZMOOLET_NAMES_FULL 16u        /* name: all 32 names are given */
+#define KIZMOOLET_NO_SUCH_NAME 17u      /* withdraw: no moment has this name */
 
 /* Result of kizmoolet_batch at a request that is not carried out; the requests before it stand. */
-#define KIZMOOLET_CUT_SHORT 11u         /* request or page cut short */
-#define KIZMOOLET_NO_OPERATION 12u      /* operation 0, 6 or 7 */
+#define KIZMOOLET_CUT_SHORT 11u         /* request, page or name cut short */
+#define KIZMOOLET_NO_OPERATION 12u      /* operation 0 */
 #define KIZMOOLET_SPARE_BITS 13u        /* spare bits, or a field that the operation does not use, are not zero */
 #define KIZMOOLET_ANSWERS_FULL 14u      /* the answer that results, a refusal's 5 bytes too, is longer than what is left of the
                                            answer area */
@@ -141,19 +157,27 @@
 #define KIZMOOLET_REVERT 3u
 #define KIZMOOLET_READ 4u
 #define KIZMOOLET_RECLAIM 5u
+#define KIZMOOLET_NAME 6u
+#define KIZMOOLET_WITHDRAW 7u
 
-/* Bytes of a page, of the head, of a row of each table. The slab has KIZMOOLET_PAGE_BYTES for each place row. */
+/* Bytes of a page, of a name, of the head, of a row of each table. The slab has KIZMOOLET_PAGE_BYTES for each place row. */
 #define KIZMOOLET_PAGE_BYTES 256u
-#define KIZMOOLET_HEAD_BYTES 20u
+#define KIZMOOLET_NAME_BYTES 8u
+#define KIZMOOLET_HEAD_BYTES 24u
 #define KIZMOOLET_BRANCH_BYTES 12u
 #define KIZMOOLET_RECORD_BYTES 12u
 #define KIZMOOLET_PLACE_BYTES 4u
+#define KIZMOOLET_NAME_ROW_BYTES 12u
 
 /* The most pages of a volume and rows of each table; of each there is at least 1. */
 #define KIZMOOLET_MOST_PAGES 65536u
 #define KIZMOOLET_MOST_BRANCHES 4096u
 #define KIZMOOLET_MOST_RECORDS 65536u
 #define KIZMOOLET_MOST_PLACES 65536u
+
+/* The most names; as many name rows are lent, no more and no fewer, and their bytes. */
+#define KIZMOOLET_MOST_NAMES 32u
+#define KIZMOOLET_NAMES_BYTES 384u
 
 /* The last moment there is; also the end of the branch that is open. */
 #define KIZMOOLET_LAST_MOMENT 4294967295u
@@ -164,10 +188,13 @@
 #define KIZMOOLET_HEAD_RECORDS_AT 8u
 #define KIZMOOLET_HEAD_NOW_AT 12u
 #define KIZMOOLET_HEAD_FLOOR_AT 16u
+#define KIZMOOLET_HEAD_NAMES_AT 20u
 
-/* Bytes of a request, of a write with its page, of an answer, of a page's date, of an answer with a page and its date. */
+/* Bytes of a request, of a write with its page, of a request with its name, of an answer, of a page's date, of an answer with a
+   page and its date. */
 #define KIZMOOLET_REQUEST_BYTES 7u
 #define KIZMOOLET_WRITE_BYTES 263u
+#define KIZMOOLET_NAMED_BYTES 15u
 #define KIZMOOLET_ANSWER_BYTES 5u
 #define KIZMOOLET_DATE_BYTES 4u
 #define KIZMOOLET_PAGE_ANSWER_BYTES 265u
@@ -181,11 +208,13 @@ extern "C" {
 #endif
 
 /*
- * Makes a fresh store of `size` pages in the five areas, whatever they hold: now 0, floor 0, no page. The slab is not written.
+ * Makes a fresh store of `size` pages in the six areas, whatever they hold: now 0, floor 0, no page, no name. The slab is not
+ * written.
  * Result: 0; or 1, and nothing is written, where the size or a length is out of range.
  */
 uint32_t kizmoolet_fresh(uint32_t size, uint8_t *head, size_t head_len, uint8_t *branches, size_t branches_len,
-    uint8_t *records, size_t records_len, uint8_t *places, size_t places_len, const uint8_t *slab, size_t slab_len);
+    uint8_t *records, size_t records_len, uint8_t *places, size_t places_len, uint8_t *names, size_t names_len,
+    const uint8_t *slab, size_t slab_len);
 
 /*
  * Checks the tables, then carries out the requests of a batch in order, each on the store that the last one left.
@@ -194,8 +223,8 @@ uint32_t kizmoolet_fresh(uint32_t size, uint8_t *head, size_t head_len, uint8_t 
  * requests, which is where in the batch the next one begins; and the bytes of their answers.
  */
 uint32_t kizmoolet_batch(uint8_t *head, size_t head_len, uint8_t *branches, size_t branches_len,
-    uint8_t *records, size_t records_len, uint8_t *places, size_t places_len, uint8_t *slab, size_t slab_len,
-    const uint8_t *batch, size_t batch_len, uint8_t *answers, size_t answers_len,
+    uint8_t *records, size_t records_len, uint8_t *places, size_t places_len, uint8_t *names, size_t names_len,
+    uint8_t *slab, size_t slab_len, const uint8_t *batch, size_t batch_len, uint8_t *answers, size_t answers_len,
     uint64_t *answered, uint64_t *request_bytes, uint64_t *answer_bytes);
 
 #ifdef __cplusplus

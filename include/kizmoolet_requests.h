@@ -1,5 +1,5 @@
 /*
- * Requests packed and answers unpacked, and what head and place table tell, for hosts of kizmoolet.h. All functions are inline:
+ * Requests packed and answers unpacked, and what head, places and names tell, for hosts of kizmoolet.h. All functions are inline:
  * there is nothing to link.
  *
  *     struct kizmoolet_requests requests = kizmoolet_requests_in(batch, sizeof batch);
@@ -31,7 +31,7 @@ struct kizmoolet_requests {
 
 /* An answer. */
 struct kizmoolet_answer {
-    uint32_t refusal;    /* 0, or 4 to 10 */
+    uint32_t refusal;    /* 0, or 4 to 10, or 15 to 17 */
     uint32_t number;     /* 0 in a refusal */
     uint32_t date;       /* the moment at which the page was written; 0 where there is no page */
     const uint8_t *page; /* KIZMOOLET_PAGE_BYTES bytes in the answer area, or NULL */
@@ -51,7 +51,7 @@ static inline uint32_t kizmoolet_number_at(const uint8_t *from)
     return (uint32_t)from[0] << 24 | (uint32_t)from[1] << 16 | (uint32_t)from[2] << 8 | (uint32_t)from[3];
 }
 
-/* The present moment, and the earliest that can be read, from the 20 bytes of a head. */
+/* The present moment, the earliest that can be read without a name, and how many names there are, from the 24 bytes of a head. */
 static inline uint32_t kizmoolet_now(const uint8_t *head)
 {
     return kizmoolet_number_at(head + KIZMOOLET_HEAD_NOW_AT);
@@ -60,6 +60,33 @@ static inline uint32_t kizmoolet_now(const uint8_t *head)
 static inline uint32_t kizmoolet_floor(const uint8_t *head)
 {
     return kizmoolet_number_at(head + KIZMOOLET_HEAD_FLOOR_AT);
+}
+
+static inline uint32_t kizmoolet_name_count(const uint8_t *head)
+{
+    return kizmoolet_number_at(head + KIZMOOLET_HEAD_NAMES_AT);
+}
+
+/* The row of the name table, counted from 0, that has this name of 8 bytes; the name count, at most 32, where none has. */
+static inline uint32_t kizmoolet_name_row(const uint8_t *head, const uint8_t *names, const uint8_t *name)
+{
+    uint32_t count = kizmoolet_name_count(head), row, i;
+    if (count > KIZMOOLET_MOST_NAMES)
+        count = KIZMOOLET_MOST_NAMES;
+    for (row = 0; row < count; row++) {
+        const uint8_t *at = names + row * KIZMOOLET_NAME_ROW_BYTES;
+        for (i = 0; i < KIZMOOLET_NAME_BYTES && at[i] == name[i]; i++)
+            ;
+        if (i == KIZMOOLET_NAME_BYTES)
+            return row;
+    }
+    return count;
+}
+
+/* The moment that a row of the name table stands for. */
+static inline uint32_t kizmoolet_named_moment(const uint8_t *names, uint32_t row)
+{
+    return kizmoolet_number_at(names + row * KIZMOOLET_NAME_ROW_BYTES + KIZMOOLET_NAME_BYTES);
 }
 
 /*
@@ -168,6 +195,29 @@ static inline int kizmoolet_add_reclaim(struct kizmoolet_requests *to, uint32_t 
     return 1;
 }
 
+/* The 8 bytes of a name follow a request. */
+static inline int kizmoolet_add_named(struct kizmoolet_requests *to, uint32_t operation, uint32_t moment, const uint8_t *name)
+{
+    size_t i;
+    uint8_t *at = kizmoolet_add_room(to, KIZMOOLET_NAMED_BYTES);
+    if (at == NULL)
+        return 0;
+    kizmoolet_pack(at, operation, 0, moment);
+    for (i = 0; i < KIZMOOLET_NAME_BYTES; i++)
+        at[KIZMOOLET_REQUEST_BYTES + i] = name[i];
+    return 1;
+}
+
+static inline int kizmoolet_add_name(struct kizmoolet_requests *to, uint32_t moment, const uint8_t *name)
+{
+    return kizmoolet_add_named(to, KIZMOOLET_NAME, moment, name);
+}
+
+static inline int kizmoolet_add_withdraw(struct kizmoolet_requests *to, const uint8_t *name)
+{
+    return kizmoolet_add_named(to, KIZMOOLET_WITHDRAW, 0, name);
+}
+
 /* The answers in this area, from the first one on. */
 static inline struct kizmoolet_answers kizmoolet_answers_in(const uint8_t *bytes, size_t length)
 {
@@ -180,8 +230,8 @@ static inline struct kizmoolet_answers kizmoolet_answers_in(const uint8_t *bytes
 
 /*
  * The next answer. Result: 1; 0 where there is no more; -1 where the bytes that are left do not begin with a whole answer as the
- * library writes them: cut short, a spare bit that is set, a refusal that is none of 4 to 10, a refusal with a number or a page.
- * With 0 and -1 the answer is all zero, and the list stays where it is.
+ * library writes them: cut short, a spare bit that is set, a refusal that is none of 4 to 10 and 15 to 17, a refusal with a
+ * number or a page. With 0 and -1 the answer is all zero, and the list stays where it is.
  */
 static inline int kizmoolet_next_answer(struct kizmoolet_answers *from, struct kizmoolet_answer *answer)
 {
@@ -206,8 +256,10 @@ static inline int kizmoolet_next_answer(struct kizmoolet_answers *from, struct k
         length = KIZMOOLET_PAGE_ANSWER_BYTES;
     if ((at[0] & 1u) != 0 || left < length)
         return -1;
-    if (refusal != 0
-        && (refusal < KIZMOOLET_ADDRESS_TOO_HIGH || refusal > KIZMOOLET_MOMENTS_USED_UP || number != 0 || page))
+    if (refusal != 0 && (number != 0 || page))
+        return -1;
+    if (refusal != 0 && (refusal < KIZMOOLET_ADDRESS_TOO_HIGH || refusal > KIZMOOLET_MOMENTS_USED_UP)
+        && (refusal < KIZMOOLET_NAME_IN_USE || refusal > KIZMOOLET_NO_SUCH_NAME))
         return -1;
     answer->refusal = refusal;
     answer->number = number;

@@ -13,11 +13,14 @@
      --all-or-nothing    where a request is refused or the batch stops, the image stays as it was
      --copy NAME         before the image is replaced, it is copied to NAME, in its own folder
 
-   The image file: 24 bytes of header (the letters KZIMAGE1; branch rows, record rows and place rows, four bytes
-   each; CRC-32 of all other bytes of the file, four bytes), then head, branch table, record table, place table and
-   page slab, just as the library takes them. All numbers are most significant byte first. The slab may end behind any
-   whole page from the last one in use on: what the file leaves out is zero in memory. A copy leaves out all that it
-   can; an image that is replaced is written whole.
+   The image file: 24 bytes of header (the letters KZIMAGE2; branch rows, record rows and place rows, four bytes
+   each; CRC-32 of all other bytes of the file, four bytes), then head, branch table, record table, place table, name
+   table and page slab, just as the library takes them. All numbers are most significant byte first. The slab may end
+   behind any whole page from the last one in use on: what the file leaves out is zero in memory. A copy leaves out all
+   that it can; an image that is replaced is written whole.
+
+   An image of before 0.3.0 begins with KZIMAGE1 and has a head of 20 bytes and no name table. It is opened as a store
+   without names; what only reads leaves it as it is, and the first change writes it in the form above.
 
    The file is never changed in place. The new image is written beside it under another name and forced to the
    disk, then takes over the name by rename, and the folder is forced to the disk: a cut of power at any moment
@@ -61,10 +64,12 @@ enum {
     CHECKSUM_AT = 20,
     HEAD = KIZMOOLET_HEAD_BYTES,
     PAGE = KIZMOOLET_PAGE_BYTES,
-    WRITE = 1, /* operations */
-    READ = 4,
-    RECLAIM = 5,
-    REQUEST = KIZMOOLET_REQUEST_BYTES,         /* without a write's page */
+    OLD_HEAD = 20, /* of before 0.3.0: without the number of names */
+    NAMES = KIZMOOLET_NAMES_BYTES,
+    WRITE = KIZMOOLET_WRITE, /* operations */
+    READ = KIZMOOLET_READ,
+    NAME = KIZMOOLET_NAME,
+    WITHDRAW = KIZMOOLET_WITHDRAW,
     ANSWER = KIZMOOLET_ANSWER_BYTES,           /* without a page */
     PAGE_ANSWER = KIZMOOLET_PAGE_ANSWER_BYTES, /* with a page and its date */
     BRANCHES_MOST = 4096,
@@ -73,7 +78,8 @@ enum {
     STACK_NEEDED = 2 << 20 /* the library takes 1.38 MB of it */
 };
 
-static const char magic[8] = {'K', 'Z', 'I', 'M', 'A', 'G', 'E', '1'};
+static const char magic[8] = {'K', 'Z', 'I', 'M', 'A', 'G', 'E', '2'};
+static const char old_magic[8] = {'K', 'Z', 'I', 'M', 'A', 'G', 'E', '1'}; /* of before 0.3.0 */
 
 static const char aside_word[] = ".kizmoolet-";
 
@@ -89,7 +95,7 @@ struct place {
 struct image {
     uint8_t *bytes;
     size_t length, in_file;
-    uint8_t *head, *branches, *records, *places, *slab;
+    uint8_t *head, *branches, *records, *places, *names, *slab;
     size_t branches_len, records_len, places_len, slab_len;
 };
 
@@ -149,7 +155,7 @@ static uint32_t checksum(const struct image *image) {
 }
 
 static size_t image_length(uint32_t branches, uint32_t records, uint32_t places) {
-    return (size_t)HEADER + HEAD + 12 * (size_t)branches + 12 * (size_t)records + (4 + PAGE) * (size_t)places;
+    return (size_t)HEADER + HEAD + 12 * (size_t)branches + 12 * (size_t)records + (4 + PAGE) * (size_t)places + NAMES;
 }
 
 /* Where the parts stand, by the numbers of rows in the header. */
@@ -162,7 +168,8 @@ static void lay_out(struct image *image) {
     image->branches = image->head + HEAD;
     image->records = image->branches + image->branches_len;
     image->places = image->records + image->records_len;
-    image->slab = image->places + image->places_len;
+    image->names = image->places + image->places_len;
+    image->slab = image->names + NAMES;
 }
 
 /* The bytes of the image up to the end of the last page in use. */
@@ -276,21 +283,41 @@ static int write_all(int file, const uint8_t *bytes, size_t length) {
     return 0;
 }
 
+/* The bytes that an image of before 0.3.0 lacks: 0 or those of the number of names and the name table. */
+static size_t lacking(const uint8_t *header) { return memcmp(header, old_magic, 8) == 0 ? HEAD - OLD_HEAD + NAMES : 0; }
+
 /* How long an image with this header is, of which a file has so many bytes; 0 where that is no image: a file has all
    tables, and whole pages of the slab. */
 static size_t whole_length(const uint8_t *header, size_t in_file) {
     size_t places = number_at(header + 16);
     size_t whole = image_length(number_at(header + 8), number_at(header + 12), (uint32_t)places);
-    if (memcmp(header, magic, 8) != 0 || whole > image_length(BRANCHES_MOST, ROWS_MOST, ROWS_MOST) || in_file > whole ||
+    in_file += lacking(header);
+    if (memcmp(header, magic, 8) != 0 && !lacking(header))
+        return 0;
+    if (whole > image_length(BRANCHES_MOST, ROWS_MOST, ROWS_MOST) || in_file > whole ||
         whole - in_file > PAGE * places || (whole - in_file) % PAGE != 0)
         return 0;
     return whole;
 }
 
+/* An image of before 0.3.0 becomes one without names. There is room for the whole image. */
+static void bring_up(struct image *image) {
+    uint8_t *from = image->bytes + HEADER + OLD_HEAD, *to = image->bytes + HEADER + HEAD;
+    lay_out(image);
+    size_t tables = image->branches_len + image->records_len + image->places_len;
+    memmove(to + tables + NAMES, from + tables, image->in_file - HEADER - OLD_HEAD - tables);
+    memset(to + tables, 0, NAMES);
+    memmove(to, from, tables);
+    memset(from, 0, HEAD - OLD_HEAD);
+    image->in_file += lacking(image->bytes);
+    memcpy(image->bytes, magic, 8);
+    put_number(image->bytes + CHECKSUM_AT, checksum(image));
+}
+
 /* The image in a file. What the file leaves out of the slab is zero. */
 static struct image load(const struct place *place, int file, const struct stat *found) {
     struct image image;
-    if (found->st_size < HEADER + HEAD || (uintmax_t)found->st_size > image_length(BRANCHES_MOST, ROWS_MOST, ROWS_MOST))
+    if (found->st_size < HEADER + OLD_HEAD || (uintmax_t)found->st_size > image_length(BRANCHES_MOST, ROWS_MOST, ROWS_MOST))
         fail(1, "%s is no image", place->name);
     image.in_file = (size_t)found->st_size;
     image.bytes = room(image.in_file + 1);
@@ -304,6 +331,8 @@ static struct image load(const struct place *place, int file, const struct stat 
     image.bytes = realloc(image.bytes, image.length);
     if (!image.bytes)
         fail(1, "no memory for %zu bytes", image.length);
+    if (lacking(image.bytes))
+        bring_up(&image);
     memset(image.bytes + image.in_file, 0, image.length - image.in_file);
     lay_out(&image);
     if (image.in_file < length_in_use(&image))
@@ -425,7 +454,7 @@ static int make(const char *path, char **sizes) {
     struct stat like = of_caller(&place, path, 0666 & ~mask);
     struct image image = empty_image(branches, records, places);
     uint32_t refusal = kizmoolet_fresh(size, image.head, HEAD, image.branches, image.branches_len, image.records,
-        image.records_len, image.places, image.places_len, image.slab, image.slab_len);
+        image.records_len, image.places, image.places_len, image.names, NAMES, image.slab, image.slab_len);
     if (refusal)
         fail(1, "refusal %lu: size, branches, records and places must each be at least 1", (unsigned long)refusal);
     put_new(&place, &image, &like);
@@ -442,8 +471,8 @@ static struct done call(
     struct image *image, const uint8_t *batch, size_t batch_len, uint8_t *answers, size_t answers_len) {
     struct done done;
     done.stop = kizmoolet_batch(image->head, HEAD, image->branches, image->branches_len, image->records,
-        image->records_len, image->places, image->places_len, image->slab, image->slab_len, batch, batch_len, answers,
-        answers_len, &done.answered, &done.request_bytes, &done.answer_bytes);
+        image->records_len, image->places, image->places_len, image->names, NAMES, image->slab, image->slab_len, batch,
+        batch_len, answers, answers_len, &done.answered, &done.request_bytes, &done.answer_bytes);
     return done;
 }
 
@@ -467,8 +496,10 @@ static uint8_t *read_batch(size_t *length) {
 
 /* The bytes that the request at the start of these takes, or 0 where the store cannot read one. */
 static size_t request_length(const uint8_t *at, size_t left) {
-    size_t length = REQUEST + (left > 0 && at[0] >> 5 == WRITE ? PAGE : 0);
-    return left < length || at[0] >> 5 < WRITE || at[0] >> 5 > RECLAIM ? 0 : length;
+    uint32_t operation = left > 0 ? at[0] >> 5 : 0;
+    size_t length = operation == WRITE ? KIZMOOLET_WRITE_BYTES
+        : operation == NAME || operation == WITHDRAW ? KIZMOOLET_NAMED_BYTES : KIZMOOLET_REQUEST_BYTES;
+    return left < length || operation == 0 ? 0 : length;
 }
 
 /* The longest that the answers to a batch can be: with such an area no batch stops with 14. */
@@ -569,6 +600,7 @@ static struct image enlarged(const char *path, struct image *image, const uint32
     memcpy(larger.branches, image->branches, image->branches_len);
     memcpy(larger.records, image->records, image->records_len);
     memcpy(larger.places, image->places, image->places_len);
+    memcpy(larger.names, image->names, NAMES);
     memcpy(larger.slab, image->slab, image->slab_len);
     if (!stop)
         stop = call(&larger, NULL, 0, NULL, 0).stop;

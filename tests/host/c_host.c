@@ -7,7 +7,9 @@
    protected  as pages; and what a call must not write to may only be read while it runs: all areas where
               1, 2 or 3 is due, the batch always, the slab of a fresh store always. A call that writes
               there all the same counts as one that differs
-   exact      an allocation of just its length, for a run under a tool that watches allocations */
+   exact      an allocation of just its length, for a run under a tool that watches allocations
+
+   With `all` as the second argument every refusal and stop must come up; with `first` the first difference ends it. */
 
 #define _GNU_SOURCE
 #include "kizmoolet.h"
@@ -24,13 +26,16 @@
 #include <sys/mman.h>
 #include <unistd.h>
 
-enum { HEAD, BRANCHES, RECORDS, PLACES, SLAB, BATCH, ANSWERS, AREAS };
+enum { HEAD, BRANCHES, RECORDS, PLACES, NAMES, SLAB, BATCH, ANSWERS, AREAS };
 
 static const char *const area_names[AREAS] = {
-    "head", "branches", "records", "places", "slab", "batch", "answers"
+    "head", "branches", "records", "places", "names", "slab", "batch", "answers"
 };
 
 enum { MARGIN = 512 };
+
+/* More than the largest number that is a refusal or a stop; and one after the largest. */
+enum { NUMBERS = 32, NUMBERS_END = KIZMOOLET_NO_SUCH_NAME + 1 };
 
 /* More than the longest area of any case. */
 static const size_t most_bytes = (size_t)40 << 20;
@@ -44,13 +49,13 @@ struct area {
 
 struct counts {
     uint64_t calls, compared, differ, answered;
-    uint64_t stops[16], refusals[16];
+    uint64_t stops[NUMBERS], refusals[NUMBERS];
     uint64_t read_only[2][4]; /* calls that were refused with all areas protected: fresh stores, batches */
 };
 
 static struct area areas[AREAS];
 static struct counts counts;
-static uint64_t seen[16];
+static uint64_t seen[NUMBERS];
 static uint64_t seen_read_only[2][4];
 static uint64_t all_differ;
 static bool call_told;
@@ -58,6 +63,7 @@ static unsigned printed;
 static bool exact;
 static bool protecting;
 static bool all_families;
+static bool only_first;
 static uint8_t *expected;
 
 static void fail(const char *what)
@@ -75,6 +81,9 @@ static void differs(const char *what, const char *of)
     }
     if (++printed <= 20)
         printf("differs at call %" PRIu64 " of the family: %s %s\n", counts.calls, what, of);
+    fflush(stdout); /* what differs may end the program soon after */
+    if (only_first)
+        _exit(1);
 }
 
 static void get(void *to, size_t length)
@@ -130,12 +139,14 @@ static void get_area(struct area *area)
     get(area->bytes, area->length);
 }
 
-/* A copy of the lent areas, laid onto bytes that are read: head and tables whole, of the slab what is in use. */
+/* A copy of the lent areas, laid onto bytes that are read: head and tables whole, but of the names the rows that are counted, and
+   of the slab what is in use. */
 static void copy_areas(void)
 {
     size_t in_use = kizmoolet_slab_in_use(areas[PLACES].bytes, areas[PLACES].length);
+    size_t named = (size_t)KIZMOOLET_NAME_ROW_BYTES * kizmoolet_name_count(areas[HEAD].bytes);
     for (int i = HEAD; i <= SLAB; i++) {
-        size_t length = i == SLAB ? in_use : areas[i].length;
+        size_t length = i == SLAB ? in_use : i == NAMES ? named : areas[i].length;
         if (length != 0)
             memcpy(expected, areas[i].bytes, length);
         get_area(&areas[i]);
@@ -233,9 +244,10 @@ static void run_fresh(void)
             areas[BRANCHES].bytes, areas[BRANCHES].length,
             areas[RECORDS].bytes, areas[RECORDS].length,
             areas[PLACES].bytes, areas[PLACES].length,
+            areas[NAMES].bytes, areas[NAMES].length,
             areas[SLAB].bytes, areas[SLAB].length);
         calling = 0;
-        counts.stops[got & 15]++;
+        counts.stops[got % NUMBERS]++;
         if (got != result)
             differs("the result of", "a fresh store");
         else if (protecting && result <= 3)
@@ -255,7 +267,7 @@ static void count_refusals(uint64_t answered, uint64_t answer_bytes)
     struct kizmoolet_answer answer;
     uint64_t unpacked = 0;
     while (kizmoolet_next_answer(&answers, &answer) == 1) {
-        counts.refusals[answer.refusal & 15]++;
+        counts.refusals[answer.refusal % NUMBERS]++;
         unpacked++;
     }
     if (unpacked != answered || answers.at != answer_bytes)
@@ -285,12 +297,13 @@ static void run_batch(void)
             areas[BRANCHES].bytes, areas[BRANCHES].length,
             areas[RECORDS].bytes, areas[RECORDS].length,
             areas[PLACES].bytes, areas[PLACES].length,
+            areas[NAMES].bytes, areas[NAMES].length,
             areas[SLAB].bytes, areas[SLAB].length,
             areas[BATCH].bytes, areas[BATCH].length,
             areas[ANSWERS].bytes, areas[ANSWERS].length,
             &got[0], &got[1], &got[2]);
         calling = 0;
-        counts.stops[got_stop & 15]++;
+        counts.stops[got_stop % NUMBERS]++;
         if (got_stop != stop || memcmp(got, counted, sizeof got) != 0) {
             differs("what is reported of", "the batch");
             if (printed <= 20)
@@ -318,7 +331,7 @@ static void print_numbers(const uint64_t *numbers, int from)
 {
     const char *before = "";
     bool some = false;
-    for (int i = from; i < 16; i++)
+    for (int i = from; i < NUMBERS; i++)
         if (numbers[i] != 0) {
             printf("%s%d: %" PRIu64, before, i, numbers[i]);
             before = ", ";
@@ -346,7 +359,7 @@ static void end_family(void)
         printf("    on areas that may only be read: fresh stores 1: %" PRIu64 "; batches 1: %" PRIu64 ", 2: %" PRIu64
                ", 3: %" PRIu64 "\n",
             counts.read_only[0][1], counts.read_only[1][1], counts.read_only[1][2], counts.read_only[1][3]);
-    for (int i = 0; i < 16; i++)
+    for (int i = 0; i < NUMBERS; i++)
         seen[i] += counts.stops[i] + counts.refusals[i];
     for (int i = 1; i <= 3; i++) {
         seen_read_only[0][i] += counts.read_only[0][i];
@@ -404,7 +417,7 @@ static void *work(void *result)
         }
     }
     *good = all_differ == 0;
-    for (int i = 1; i < 15; i++)
+    for (int i = 1; i < NUMBERS_END; i++)
         if (all_families && seen[i] == 0) {
             printf("  never seen: %d\n", i);
             *good = false;
@@ -423,6 +436,7 @@ int main(int argc, char **argv)
     exact = argc > 1 && strcmp(argv[1], "exact") == 0;
     protecting = argc > 1 && strcmp(argv[1], "protected") == 0;
     all_families = argc > 2 && strcmp(argv[2], "all") == 0;
+    only_first = argc > 2 && strcmp(argv[2], "first") == 0;
     size_t page = (size_t)sysconf(_SC_PAGESIZE);
     if (most_bytes % page != 0)
         fail("a page is larger than thought");

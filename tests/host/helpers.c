@@ -3,8 +3,10 @@
 
    1. Every request and answer that helpers/main.rs writes, packed and unpacked: the bytes are those of the reference; into an
       area that is too short nothing is packed, and answers that are cut short anywhere are not unpacked. For every place table
-      that it writes, up to which byte the slab is in use; only whole rows are looked at.
-   2. Each of the numbers 0 to 14, by its name, comes from the library where the header says, and so does a page's date. */
+      that it writes, up to which byte the slab is in use; only whole rows are looked at. For every name table, which row has a
+      name, and its moment.
+   2. Each of the numbers 0 to 17, by its name, comes from the library where the header says, and so do a page's date and the
+      rows of names. */
 
 #include "kizmoolet.h"
 #include "kizmoolet_requests.h"
@@ -69,11 +71,12 @@ static int all_guard(const uint8_t *from, size_t length)
     return 1;
 }
 
-static int add(struct kizmoolet_requests *to, uint64_t operation, uint32_t address, uint32_t moment, const uint8_t *page)
+/* Behind a request: its page or its name. */
+static int add(struct kizmoolet_requests *to, uint64_t operation, uint32_t address, uint32_t moment, const uint8_t *behind)
 {
     switch (operation) {
     case KIZMOOLET_WRITE:
-        return kizmoolet_add_write(to, address, page);
+        return kizmoolet_add_write(to, address, behind);
     case KIZMOOLET_MARK:
         return kizmoolet_add_mark(to);
     case KIZMOOLET_REVERT:
@@ -82,6 +85,10 @@ static int add(struct kizmoolet_requests *to, uint64_t operation, uint32_t addre
         return kizmoolet_add_read(to, address, moment);
     case KIZMOOLET_RECLAIM:
         return kizmoolet_add_reclaim(to, moment);
+    case KIZMOOLET_NAME:
+        return kizmoolet_add_name(to, moment, behind);
+    case KIZMOOLET_WITHDRAW:
+        return kizmoolet_add_withdraw(to, behind);
     default:
         fail("no such operation");
         return 0;
@@ -98,15 +105,17 @@ static void one_request(void)
 {
     uint64_t operation = get_number();
     uint32_t address = (uint32_t)get_number(), moment = (uint32_t)get_number();
-    uint8_t page[KIZMOOLET_PAGE_BYTES], bytes[KIZMOOLET_WRITE_BYTES], area[KIZMOOLET_WRITE_BYTES + 8];
-    size_t room, page_len = get_area(page, sizeof page), length = get_area(bytes, sizeof bytes);
-    CHECK((page_len != 0) == (operation == KIZMOOLET_WRITE));
-    CHECK(length == (page_len != 0 ? KIZMOOLET_WRITE_BYTES : KIZMOOLET_REQUEST_BYTES));
+    uint8_t behind[KIZMOOLET_PAGE_BYTES], bytes[KIZMOOLET_WRITE_BYTES], area[KIZMOOLET_WRITE_BYTES + 8];
+    size_t room, behind_len = get_area(behind, sizeof behind), length = get_area(bytes, sizeof bytes);
+    int named = operation == KIZMOOLET_NAME || operation == KIZMOOLET_WITHDRAW;
+    CHECK(behind_len == (operation == KIZMOOLET_WRITE ? KIZMOOLET_PAGE_BYTES : named ? KIZMOOLET_NAME_BYTES : 0));
+    CHECK(length
+        == (operation == KIZMOOLET_WRITE ? KIZMOOLET_WRITE_BYTES : named ? KIZMOOLET_NAMED_BYTES : KIZMOOLET_REQUEST_BYTES));
     for (room = 0; room <= length + 1; room++) {
         struct kizmoolet_requests to;
         memset(area, GUARD, sizeof area);
         to = kizmoolet_requests_in(area, room);
-        CHECK(add(&to, operation, address, moment, page) == (room >= length));
+        CHECK(add(&to, operation, address, moment, behind) == (room >= length));
         if (room >= length) {
             CHECK(to.length == length && !to.failed);
             CHECK(memcmp(area, bytes, length) == 0 && all_guard(area + length, sizeof area - length));
@@ -117,7 +126,7 @@ static void one_request(void)
             to.room = sizeof area;
             CHECK(kizmoolet_add_mark(&to) == 0 && to.length == 0 && all_guard(area, sizeof area));
         }
-        if (room == KIZMOOLET_REQUEST_BYTES + 1 && length > room)
+        if (room == KIZMOOLET_REQUEST_BYTES + 1 && operation == KIZMOOLET_WRITE)
             room = length - 3; /* not each of the page's bytes */
     }
     kizmoolet_pack(area, (uint32_t)operation, (uint16_t)address, moment);
@@ -125,7 +134,7 @@ static void one_request(void)
     if (all_requests_len + length <= sizeof all_requests) {
         memcpy(all_requests + all_requests_len, bytes, length);
         all_requests_len += length;
-        CHECK(add(&all_packed, operation, address, moment, page) == 1);
+        CHECK(add(&all_packed, operation, address, moment, behind) == 1);
     }
 }
 
@@ -183,7 +192,8 @@ static void one_answer(void)
     CHECK(next_answer(&from, &answer) == -1 && from.at == 0 && all_zero(&answer));
     for (bit = 0; bit < 64; bit++) {
         uint8_t first = (uint8_t)(bit << 2 | (page_len != 0 ? 2u : 0u));
-        int good = bit == 0 || (bit >= 4 && bit <= 10 && page_len == 0 && number == 0);
+        int refusal_number = (bit >= 4 && bit <= 10) || (bit >= 15 && bit <= 17);
+        int good = bit == 0 || (refusal_number && page_len == 0 && number == 0);
         bytes[0] = first;
         from = kizmoolet_answers_in(bytes, length);
         CHECK(next_answer(&from, &answer) == (good ? 1 : -1) && (good || all_zero(&answer)));
@@ -209,6 +219,29 @@ static void one_place_table(void)
     free(part);
 }
 
+/* The row of a name, and its moment. The areas are allocations of their own, so that the sanitizers see what is read past
+   them. */
+static void one_name_table(void)
+{
+    uint8_t head_bytes[KIZMOOLET_HEAD_BYTES], names_bytes[KIZMOOLET_NAMES_BYTES], name_bytes[KIZMOOLET_NAME_BYTES];
+    size_t head_len = get_area(head_bytes, sizeof head_bytes), names_len = get_area(names_bytes, sizeof names_bytes);
+    size_t name_len = get_area(name_bytes, sizeof name_bytes), row = (size_t)get_number();
+    uint8_t *head_part = (uint8_t *)malloc(head_len), *names_part = (uint8_t *)malloc(names_len);
+    uint8_t *name_part = (uint8_t *)malloc(name_len);
+    if (head_part == NULL || names_part == NULL || name_part == NULL)
+        fail("no memory");
+    memcpy(head_part, head_bytes, head_len);
+    memcpy(names_part, names_bytes, names_len);
+    memcpy(name_part, name_bytes, name_len);
+    CHECK(kizmoolet_name_count(head_part) == kizmoolet_number_at(head_bytes + 20));
+    CHECK(kizmoolet_name_row(head_part, names_part, name_part) == row);
+    for (row = 0; row < KIZMOOLET_MOST_NAMES; row++)
+        CHECK(kizmoolet_named_moment(names_part, (uint32_t)row) == kizmoolet_number_at(names_bytes + 12 * row + 8));
+    free(head_part);
+    free(names_part);
+    free(name_part);
+}
+
 static void reference_sizes(void)
 {
     CHECK(get_number() == KIZMOOLET_PAGE_BYTES);
@@ -219,6 +252,11 @@ static void reference_sizes(void)
     CHECK(get_number() == KIZMOOLET_MOST_BRANCHES);
     CHECK(get_number() == KIZMOOLET_MOST_RECORDS);
     CHECK(get_number() == KIZMOOLET_MOST_PLACES);
+    CHECK(get_number() == KIZMOOLET_NAME_BYTES);
+    CHECK(get_number() == KIZMOOLET_NAME_ROW_BYTES);
+    CHECK(get_number() == KIZMOOLET_MOST_NAMES);
+    CHECK(get_number() == KIZMOOLET_NAMES_BYTES);
+    CHECK(get_number() == KIZMOOLET_NAMED_BYTES);
     CHECK(get_number() == KIZMOOLET_MOST_PAGES);
     CHECK(get_number() == KIZMOOLET_LAST_MOMENT);
     CHECK(get_number() == KIZMOOLET_ANSWER_BYTES);
@@ -228,7 +266,7 @@ static void reference_sizes(void)
 
 static void against_reference(void)
 {
-    unsigned long requests = 0, answers = 0, place_tables = 0;
+    unsigned long requests = 0, answers = 0, place_tables = 0, name_tables = 0;
     struct kizmoolet_answers from;
     struct kizmoolet_answer answer;
     all_packed = kizmoolet_requests_in(packed_requests, sizeof packed_requests);
@@ -246,6 +284,9 @@ static void against_reference(void)
         } else if (tag == 'S') {
             one_place_table();
             place_tables++;
+        } else if (tag == 'N') {
+            one_name_table();
+            name_tables++;
         } else if (tag == 'Z') {
             break;
         } else {
@@ -258,15 +299,15 @@ static void against_reference(void)
     while (kizmoolet_next_answer(&from, &answer) == 1)
         answers_seen--;
     CHECK(answers_seen == 0 && from.at == all_answers_len);
-    CHECK(requests > 10000 && answers > 4000 && place_tables > 20000);
-    printf("  %lu requests, %lu answers, %lu place tables\n", requests, answers, place_tables);
+    CHECK(requests > 14000 && answers > 4000 && place_tables > 20000 && name_tables > 20000);
+    printf("  %lu requests, %lu answers, %lu place tables, %lu name tables\n", requests, answers, place_tables, name_tables);
 }
 
 /* ---- 2. each number by its name */
 
 /* A store of the smallest tables, and some more. */
 static uint8_t head[KIZMOOLET_HEAD_BYTES], branches[KIZMOOLET_BRANCH_BYTES * 2], records[KIZMOOLET_RECORD_BYTES * 2];
-static uint8_t places[KIZMOOLET_PLACE_BYTES * 2], slab[KIZMOOLET_PAGE_BYTES * 2];
+static uint8_t places[KIZMOOLET_PLACE_BYTES * 2], names[KIZMOOLET_NAMES_BYTES], slab[KIZMOOLET_PAGE_BYTES * 2];
 static size_t branch_rows, record_rows, place_rows;
 static uint8_t batch[ROOM], answers_area[ROOM];
 static struct kizmoolet_requests list;
@@ -288,7 +329,7 @@ static void fresh(size_t branch_count, size_t record_count, size_t place_count)
     record_rows = record_count;
     place_rows = place_count;
     CHECK(kizmoolet_fresh(6, head, sizeof head, branches, KIZMOOLET_BRANCH_BYTES * branch_rows, records,
-              KIZMOOLET_RECORD_BYTES * record_rows, places, KIZMOOLET_PLACE_BYTES * place_rows, slab,
+              KIZMOOLET_RECORD_BYTES * record_rows, places, KIZMOOLET_PLACE_BYTES * place_rows, names, sizeof names, slab,
               KIZMOOLET_PAGE_BYTES * place_rows)
         == KIZMOOLET_OK);
     list = kizmoolet_requests_in(batch, sizeof batch);
@@ -300,7 +341,7 @@ static uint32_t send_to(size_t room)
     uint32_t stop;
     CHECK(!list.failed);
     stop = kizmoolet_batch(head, sizeof head, branches, KIZMOOLET_BRANCH_BYTES * branch_rows, records,
-        KIZMOOLET_RECORD_BYTES * record_rows, places, KIZMOOLET_PLACE_BYTES * place_rows, slab,
+        KIZMOOLET_RECORD_BYTES * record_rows, places, KIZMOOLET_PLACE_BYTES * place_rows, names, sizeof names, slab,
         KIZMOOLET_PAGE_BYTES * place_rows, batch, list.length, answers_area, room, &answered, &request_bytes, &answer_bytes);
     list = kizmoolet_requests_in(batch, sizeof batch);
     answers = kizmoolet_answers_in(answers_area, (size_t)answer_bytes);
@@ -339,14 +380,85 @@ static void dated(uint32_t written, uint32_t asked)
     CHECK(kizmoolet_next_answer(&answers, &answer) == 1 && answer.number == asked && answer.date == written);
 }
 
+/* Names given, found in the table, used below the floor, and withdrawn; and their refusals. */
+static void named(void)
+{
+    static const uint8_t built[] = "as built", later[] = "as later";
+    struct kizmoolet_answer answer;
+    uint8_t other[KIZMOOLET_NAME_BYTES] = { 0 };
+    uint32_t i;
+    fresh(2, 2, 2);
+    kizmoolet_add_write(&list, 5, letters);
+    kizmoolet_add_mark(&list);
+    kizmoolet_add_mark(&list);
+    kizmoolet_add_name(&list, 1, later);
+    kizmoolet_add_name(&list, 0, built);
+    kizmoolet_add_name(&list, 1, built);
+    kizmoolet_add_name(&list, 2, other);
+    kizmoolet_add_reclaim(&list, 2);
+    kizmoolet_add_read(&list, 5, 0);
+    kizmoolet_add_withdraw(&list, later);
+    kizmoolet_add_withdraw(&list, later);
+    kizmoolet_add_read(&list, 5, 1);
+    CHECK(send_list() == KIZMOOLET_OK && answered == 12);
+    for (i = 0; i < 3; i++)
+        CHECK(refused() == KIZMOOLET_OK);
+    CHECK(kizmoolet_next_answer(&answers, &answer) == 1 && answer.refusal == KIZMOOLET_OK && answer.number == 1);
+    CHECK(kizmoolet_next_answer(&answers, &answer) == 1 && answer.refusal == KIZMOOLET_OK && answer.number == 0);
+    CHECK(refused() == KIZMOOLET_NAME_IN_USE && refused() == KIZMOOLET_MOMENT_TOO_LATE && refused() == KIZMOOLET_OK);
+    CHECK(kizmoolet_next_answer(&answers, &answer) == 1 && answer.number == 0 && answer.page != NULL);
+    CHECK(kizmoolet_next_answer(&answers, &answer) == 1 && answer.refusal == KIZMOOLET_OK && answer.number == 1);
+    CHECK(refused() == KIZMOOLET_NO_SUCH_NAME && refused() == KIZMOOLET_MOMENT_TOO_EARLY);
+    CHECK(kizmoolet_name_count(head) == 1 && kizmoolet_number_at(head + KIZMOOLET_HEAD_NAMES_AT) == 1);
+    CHECK(kizmoolet_name_row(head, names, built) == 0 && kizmoolet_named_moment(names, 0) == 0);
+    CHECK(kizmoolet_name_row(head, names, later) == 1 && kizmoolet_name_row(head, names, other) == 1);
+    kizmoolet_add_revert(&list, 0);
+    for (i = 1; i < KIZMOOLET_MOST_NAMES; i++) {
+        other[0] = (uint8_t)i;
+        kizmoolet_add_name(&list, i % 3, other);
+    }
+    CHECK(send_list() == KIZMOOLET_OK && refused() == KIZMOOLET_OK && answered == KIZMOOLET_MOST_NAMES);
+    /* Moment 1 has no name any more. */
+    for (i = 1; i < KIZMOOLET_MOST_NAMES; i++)
+        CHECK(refused() == (i % 3 == 1 ? KIZMOOLET_MOMENT_TOO_EARLY : KIZMOOLET_OK));
+    for (i = kizmoolet_name_count(head); i < KIZMOOLET_MOST_NAMES; i++) {
+        other[1] = (uint8_t)i;
+        kizmoolet_add_name(&list, 2, other);
+    }
+    kizmoolet_add_name(&list, 2, later);
+    kizmoolet_add_name(&list, 2, other);
+    CHECK(send_list() == KIZMOOLET_OK && kizmoolet_name_count(head) == KIZMOOLET_MOST_NAMES);
+    while (answers.at + 2 * KIZMOOLET_ANSWER_BYTES < answers.length)
+        CHECK(refused() == KIZMOOLET_OK);
+    CHECK(refused() == KIZMOOLET_NAMES_FULL && refused() == KIZMOOLET_NAME_IN_USE);
+    CHECK(kizmoolet_name_row(head, names, other) == 31 && kizmoolet_named_moment(names, 31) == 2);
+    CHECK(kizmoolet_name_row(head, names, later) == 32);
+
+    put_number(head + KIZMOOLET_HEAD_NAMES_AT, 33);
+    CHECK(send_list() == KIZMOOLET_OUT_OF_RANGE);
+    put_number(head + KIZMOOLET_HEAD_NAMES_AT, 32);
+    CHECK(send_list() == KIZMOOLET_OK);
+    memcpy(names + KIZMOOLET_NAME_ROW_BYTES, other, sizeof other);
+    CHECK(send_list() == KIZMOOLET_BRANCHES_UNSOUND);
+    fresh(1, 1, 1);
+    kizmoolet_add_name(&list, 0, built);
+    list.length--;
+    CHECK(send_list() == KIZMOOLET_CUT_SHORT);
+    kizmoolet_add_named(&list, KIZMOOLET_WITHDRAW, 1, built);
+    CHECK(send_list() == KIZMOOLET_SPARE_BITS);
+}
+
 static void by_name(void)
 {
     struct kizmoolet_answer answer;
     CHECK(kizmoolet_fresh(0, head, sizeof head, branches, sizeof branches, records, sizeof records, places, sizeof places,
-              slab, sizeof slab)
+              names, sizeof names, slab, sizeof slab)
         == KIZMOOLET_OUT_OF_RANGE);
     CHECK(kizmoolet_fresh(KIZMOOLET_MOST_PAGES + 1, head, sizeof head, branches, sizeof branches, records, sizeof records,
-              places, sizeof places, slab, sizeof slab)
+              places, sizeof places, names, sizeof names, slab, sizeof slab)
+        == KIZMOOLET_OUT_OF_RANGE);
+    CHECK(kizmoolet_fresh(6, head, sizeof head, branches, sizeof branches, records, sizeof records, places, sizeof places,
+              names, sizeof names - KIZMOOLET_NAME_ROW_BYTES, slab, sizeof slab)
         == KIZMOOLET_OUT_OF_RANGE);
 
     fresh(2, 2, 2);
@@ -411,7 +523,7 @@ static void by_name(void)
     kizmoolet_add_mark(&list);
     list.length--;
     CHECK(send_list() == KIZMOOLET_CUT_SHORT);
-    kizmoolet_pack(batch, 6, 0, 0);
+    kizmoolet_pack(batch, 0, 0, 0);
     list.length = KIZMOOLET_REQUEST_BYTES;
     CHECK(send_list() == KIZMOOLET_NO_OPERATION);
     kizmoolet_pack(batch, KIZMOOLET_MARK, 1, 0);
@@ -435,8 +547,11 @@ int main(void)
     CHECK(strcmp(version, KIZMOOLET_VERSION) == 0);
     CHECK(KIZMOOLET_WRITE_BYTES == KIZMOOLET_REQUEST_BYTES + KIZMOOLET_PAGE_BYTES);
     CHECK(KIZMOOLET_PAGE_ANSWER_BYTES == KIZMOOLET_ANSWER_BYTES + KIZMOOLET_DATE_BYTES + KIZMOOLET_PAGE_BYTES);
+    CHECK(KIZMOOLET_NAMED_BYTES == KIZMOOLET_REQUEST_BYTES + KIZMOOLET_NAME_BYTES);
+    CHECK(KIZMOOLET_NAMES_BYTES == KIZMOOLET_MOST_NAMES * KIZMOOLET_NAME_ROW_BYTES);
     against_reference();
     by_name();
+    named();
     printf("  %lu checks, %lu wrong\n", checks, wrong);
     return wrong == 0 ? 0 : 1;
 }

@@ -15,7 +15,7 @@ enum { STACK = 4 << 20, PATTERN = 0xA7, BATCH_ROOM = 1 << 16 };
 
 /* A store with the rows lent, and the call that is made on it. */
 struct store {
-    uint8_t head[KIZMOOLET_HEAD_BYTES];
+    uint8_t head[KIZMOOLET_HEAD_BYTES], names[KIZMOOLET_NAMES_BYTES];
     uint8_t *branches, *records, *places, *slab;
     size_t branches_len, records_len, places_len, slab_len;
 };
@@ -57,7 +57,8 @@ static __attribute__((noinline)) void *call_fresh(void *unused)
 {
     called_from = __builtin_frame_address(0);
     result = kizmoolet_fresh(KIZMOOLET_MOST_PAGES, store.head, sizeof store.head, store.branches, store.branches_len,
-        store.records, store.records_len, store.places, store.places_len, store.slab, store.slab_len);
+        store.records, store.records_len, store.places, store.places_len, store.names, sizeof store.names, store.slab,
+        store.slab_len);
     return unused;
 }
 
@@ -66,8 +67,8 @@ static __attribute__((noinline)) void *call_batch(void *unused)
     uint64_t answered, request_bytes, answer_bytes;
     called_from = __builtin_frame_address(0);
     result = kizmoolet_batch(store.head, sizeof store.head, store.branches, store.branches_len, store.records,
-        store.records_len, store.places, store.places_len, store.slab, store.slab_len, batch, batch_len, answers,
-        sizeof answers, &answered, &request_bytes, &answer_bytes);
+        store.records_len, store.places, store.places_len, store.names, sizeof store.names, store.slab, store.slab_len, batch,
+        batch_len, answers, sizeof answers, &answered, &request_bytes, &answer_bytes);
     return unused;
 }
 
@@ -108,12 +109,17 @@ static void tell(const char *what, void *(*call)(void *), uint32_t due)
 static void all_requests(void)
 {
     static const uint8_t page[KIZMOOLET_PAGE_BYTES];
+    uint8_t name[KIZMOOLET_NAME_BYTES] = { 0 };
     struct kizmoolet_requests to = kizmoolet_requests_in(batch, sizeof batch);
     for (uint32_t i = 0; i < 100; i++) {
         kizmoolet_add_write(&to, i, page);
         kizmoolet_add_mark(&to);
         kizmoolet_add_revert(&to, 2 * i);
         kizmoolet_add_read(&to, i, i);
+        name[0] = (uint8_t)i;
+        kizmoolet_add_name(&to, i, name);
+        if (i % 4 == 3)
+            kizmoolet_add_withdraw(&to, name);
     }
     kizmoolet_add_reclaim(&to, 100);
     if (to.failed)
@@ -128,7 +134,7 @@ int main(void)
     batch_len = 0;
     tell("kizmoolet_batch, largest tables, empty batch", call_batch, KIZMOOLET_OK);
     all_requests();
-    tell("kizmoolet_batch, largest tables, all five requests", call_batch, KIZMOOLET_OK);
+    tell("kizmoolet_batch, largest tables, all seven requests", call_batch, KIZMOOLET_OK);
     store.places[0] ^= 1;
     tell("kizmoolet_batch, largest tables, refused with 3", call_batch, KIZMOOLET_RECORDS_UNSOUND);
     make(1, 1, 1);

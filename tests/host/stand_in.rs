@@ -22,22 +22,24 @@ unsafe fn give_back(part: Part, bytes: &[u8]) {
     }
 }
 
-unsafe fn taken(parts: &[Part; 5]) -> Areas {
+unsafe fn taken(parts: &[Part; 6]) -> Areas {
     Areas {
         head: copied(parts[0]),
         branches: copied(parts[1]),
         records: copied(parts[2]),
         places: copied(parts[3]),
-        slab: copied(parts[4]),
+        names: copied(parts[4]),
+        slab: copied(parts[5]),
     }
 }
 
-unsafe fn returned(parts: &[Part; 5], areas: &Areas) {
+unsafe fn returned(parts: &[Part; 6], areas: &Areas) {
     give_back(parts[0], &areas.head);
     give_back(parts[1], &areas.branches);
     give_back(parts[2], &areas.records);
     give_back(parts[3], &areas.places);
-    give_back(parts[4], &areas.slab);
+    give_back(parts[4], &areas.names);
+    give_back(parts[5], &areas.slab);
 }
 
 /// # Safety
@@ -53,11 +55,19 @@ pub unsafe extern "C" fn kizmoolet_fresh(
     records_len: usize,
     places: *mut u8,
     places_len: usize,
+    names: *mut u8,
+    names_len: usize,
     slab: *const u8,
     slab_len: usize,
 ) -> u32 {
-    let parts =
-        [(head, head_len), (branches, branches_len), (records, records_len), (places, places_len), (slab.cast_mut(), slab_len)];
+    let parts = [
+        (head, head_len),
+        (branches, branches_len),
+        (records, records_len),
+        (places, places_len),
+        (names, names_len),
+        (slab.cast_mut(), slab_len),
+    ];
     let mut areas = taken(&parts);
     let result = reference::fresh(size, &mut areas);
     returned(&parts, &areas);
@@ -76,6 +86,8 @@ pub unsafe extern "C" fn kizmoolet_batch(
     records_len: usize,
     places: *mut u8,
     places_len: usize,
+    names: *mut u8,
+    names_len: usize,
     slab: *mut u8,
     slab_len: usize,
     batch: *const u8,
@@ -86,8 +98,14 @@ pub unsafe extern "C" fn kizmoolet_batch(
     request_bytes: *mut u64,
     answer_bytes: *mut u64,
 ) -> u32 {
-    let parts =
-        [(head, head_len), (branches, branches_len), (records, records_len), (places, places_len), (slab, slab_len)];
+    let parts = [
+        (head, head_len),
+        (branches, branches_len),
+        (records, records_len),
+        (places, places_len),
+        (names, names_len),
+        (slab, slab_len),
+    ];
     let mut areas = taken(&parts);
     let requests = copied((batch.cast_mut(), batch_len));
     let mut area = copied((answers, answers_len));

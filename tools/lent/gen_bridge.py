@@ -109,7 +109,7 @@ lits = lambda n: w.opds(*["(lit ! tt)"] * n)
 TH = lambda h, e: "LL.lawful T.the-type T′.the-laws 𝓤 H A W .typed %s _ %s .0" % (h, e)
 LOWB = "(B′.lowered zero-branch)"
 w.emit("-- the head and the rows in their locals, as what a reference borrows")
-w.assign("agg ! " + lits(5), L["head"], TH("head₀", "head-is"))
+w.assign("agg ! " + lits(6), L["head"], TH("head₀", "head-is"))
 w.assign("agg ! " + lits(3), L["row"], "LL.lawful B.the-type B′.the-laws 𝓤 H A W .typed zero-branch _ row-is .0")
 w.assign("rep ! 16 " + w.load(L["row"]), L["rows"], "repeat-typed S zero-branch %s row-is 𝓤 H A W 16 (LL.lawful B.the-type B′.the-laws 𝓤 H A W)" % LOWB)
 w.emit("owned ! R (Is R) ((LL.makes T.the-type T′.the-plain) 𝓤 H A) head₀ _ head-is $"); w.become(0, "hown")
@@ -261,7 +261,7 @@ for i in range(NL):
     if "_%d" % i != L["rows"]: w.forget("_%d" % i)
 for i in range(NL): w.free("_%d" % i, "d_%d" % i)
 w.emit("free0 ! $"); w.keep("tok", *["fin-" + p.name for p in LIFES])
-said = "(then-batch size %s r₁ %s (lent %s %s slab) same-%s₁ made input answers r %s (lent %s %s) %s ran)" % (LENT, H1, B1, z1s, TABLES[0], H2, B2, names(NUMBERS + [SLAB], lambda p: Z2[p]), Z2[ANSWERS])
+said = "(then-batch size %s r₁ %s (lent %s %s slab) same-rt₁ same-nt₁ made input answers r %s (lent %s %s) %s ran)" % (LENT, H1, B1, z1s, H2, B2, names(NUMBERS + [SLAB], lambda p: Z2[p]), Z2[ANSWERS])
 sames = names(MUTS, lambda p: "(same-%s₂ ∙ same-%s₁)" % (p.name, p.name) if p in NUMBERS else "same-%s₂" % p.name)
 BODY = w.text("by ! (exits %s r %s %s %s %s)" % (H2, z2s, said, sames, OUTIS))
 

@@ -4,7 +4,7 @@ worked out, and changes the list as the step changes the context. A wrong name r
 import re
 
 # the tables of numbers that are lent beside the branch rows, in the order of the parameters
-TABLES = ["rt", "pt"]
+TABLES = ["rt", "pt", "nt"]
 
 class Walk:
     def __init__(self, names, indent="        "):

@@ -28,25 +28,28 @@ pub fn serve(
     bt: &mut [u32],
     rt: &mut [u32],
     pt: &mut [u32],
+    nt: &mut [u32],
     slab: &mut [u8],
     part: &[u8],
     q: Request,
     low: &mut usize,
 ) -> Outcome
-    requires { ⌜ Sound (storeOf head (tables (now bt) (now rt) (now pt) (now slab))) × Whole (requestOf (now part) q) ⌝ }
+    requires { ⌜ Sound (storeOf head (tables (now bt) (now rt) (now pt) (now nt) (now slab))) × Whole (requestOf (now part) q) ⌝ }
     requires { ⌜ NoneBelow (now low) (now pt) ⌝ }
-    ensures { λ r. ⌜ Carried head (tables (now (bt .entry)) (now (rt .entry)) (now (pt .entry)) (now (slab .entry))) (requestOf (now (part .entry)) q) r (tables (now (bt .exit)) (now (rt .exit)) (now (pt .exit)) (now (slab .exit))) ⌝ }
+    ensures { λ r. ⌜ Carried head (tables (now (bt .entry)) (now (rt .entry)) (now (pt .entry)) (now (nt .entry)) (now (slab .entry))) (requestOf (now (part .entry)) q) r (tables (now (bt .exit)) (now (rt .exit)) (now (pt .exit)) (now (nt .exit)) (now (slab .exit))) ⌝ }
     ensures { λ _. ⌜ NoneBelow (now (low .exit)) (now (pt .exit)) ⌝ }
 {
     match q {
         Request::Write(a) => writing::write(head, rt, pt, slab, a, &part[7..263], low),
         Request::Mark => store::mark(head),
-        Request::Revert(m) => store::revert(head, bt, m),
-        Request::ReadAt(a, m) => store::read(head, bt, rt, a, m),
+        Request::Revert(m) => store::revert(head, bt, nt, m),
+        Request::ReadAt(a, m) => store::read(head, bt, rt, nt, a, m),
         Request::Reclaim(m) => {
             *low = 0;
-            reclaim::reclaim(head, bt, rt, pt, m)
+            reclaim::reclaim(head, bt, rt, pt, nt, m)
         }
+        Request::Give(n) => naming::give(head, nt, n),
+        Request::Withdraw(upper, lower) => naming::withdraw(head, nt, upper, lower),
     }
 }
 
@@ -67,12 +70,13 @@ pub fn run(
     bt: &mut [u32],
     rt: &mut [u32],
     pt: &mut [u32],
+    nt: &mut [u32],
     slab: &mut [u8],
     input: &[u8],
     answers: &mut [u8],
 ) -> Done
-    requires { ⌜ Sound (storeOf first (tables (now bt) (now rt) (now pt) (now slab))) ⌝ }
-    ensures { λ r. ⌜ BatchLeaves (batch (storeOf first (tables (now (bt .entry)) (now (rt .entry)) (now (pt .entry)) (now (slab .entry)))) (now (input .entry)) (length (now (answers .entry)))) (tables (now (bt .entry)) (now (rt .entry)) (now (pt .entry)) (now (slab .entry))) (now (answers .entry)) r (tables (now (bt .exit)) (now (rt .exit)) (now (pt .exit)) (now (slab .exit))) (now (answers .exit)) ⌝ }
+    requires { ⌜ Sound (storeOf first (tables (now bt) (now rt) (now pt) (now nt) (now slab))) ⌝ }
+    ensures { λ r. ⌜ BatchLeaves (batch (storeOf first (tables (now (bt .entry)) (now (rt .entry)) (now (pt .entry)) (now (nt .entry)) (now (slab .entry)))) (now (input .entry)) (length (now (answers .entry)))) (tables (now (bt .entry)) (now (rt .entry)) (now (pt .entry)) (now (nt .entry)) (now (slab .entry))) (now (answers .entry)) r (tables (now (bt .exit)) (now (rt .exit)) (now (pt .exit)) (now (nt .exit)) (now (slab .exit))) (now (answers .exit)) ⌝ }
 {
     let mut head = first;
     let mut answered: usize = 0;
@@ -89,7 +93,7 @@ pub fn run(
         if answers.len() - out < 5 {
             return report(head, 14, answered, at, out);
         }
-        let r = serve(head, bt, rt, pt, slab, part, q, &mut low);
+        let r = serve(head, bt, rt, pt, nt, slab, part, q, &mut low);
         head = r.head;
         let size = wire::answer_size(r);
         if answers.len() - out < size {
@@ -121,15 +125,16 @@ pub fn batch(
     bt: &mut [u32],
     rt: &mut [u32],
     pt: &mut [u32],
+    nt: &mut [u32],
     slab: &mut [u8],
     input: &[u8],
     answers: &mut [u8],
 ) -> Done
-    ensures { λ r. ⌜ BatchLeaves (batchOf head (tables (now (bt .entry)) (now (rt .entry)) (now (pt .entry)) (now (slab .entry))) (now (input .entry)) (length (now (answers .entry)))) (tables (now (bt .entry)) (now (rt .entry)) (now (pt .entry)) (now (slab .entry))) (now (answers .entry)) r (tables (now (bt .exit)) (now (rt .exit)) (now (pt .exit)) (now (slab .exit))) (now (answers .exit)) ⌝ }
+    ensures { λ r. ⌜ BatchLeaves (batchOf head (tables (now (bt .entry)) (now (rt .entry)) (now (pt .entry)) (now (nt .entry)) (now (slab .entry))) (now (input .entry)) (length (now (answers .entry)))) (tables (now (bt .entry)) (now (rt .entry)) (now (pt .entry)) (now (nt .entry)) (now (slab .entry))) (now (answers .entry)) r (tables (now (bt .exit)) (now (rt .exit)) (now (pt .exit)) (now (nt .exit)) (now (slab .exit))) (now (answers .exit)) ⌝ }
 {
-    let refusal = soundness::check(head, bt, rt, pt, slab);
+    let refusal = soundness::check(head, bt, rt, pt, nt, slab);
     if refusal != 0 {
         return report(head, refusal, 0, 0, 0);
     }
-    run(head, bt, rt, pt, slab, input, answers)
+    run(head, bt, rt, pt, nt, slab, input, answers)
 }

@@ -20,4 +20,9 @@ fn main() {
     case(b"stop-13");
     case(b"stop-14");
     case(b"longer");
+    case(b"named");
+    case(b"withdrawn");
+    case(b"names");
+    case(b"stop-11-name");
+    case(b"stop-13-name");
 }

@@ -1,26 +1,35 @@
 -- The laws of the marks of a reclaim.
 use mathlib.Core.Path.{_≡_, refl, ap, sym, _∙_}
 use mathlib.Core.Logic.{_⊎_, inl, inr}
-use mathlib.Core.List.{List, [], _∷_, _++_, map, append-assoc, append-nil}
+use mathlib.Core.List.{List, [], _∷_, _++_, map, map-append, append-assoc, append-nil}
 use mathlib.Core.Bool.{Bool, true, false, _||_}
 use Prim.Native.Nat.{ℕ, zero, suc, _+_, _-_, _≤_, _<_}
 use native.Mathlib.Omega.{arith}
+use native.Mathlib.Nat.{add-zero, add-suc}
+use native.Mathlib.Numerals.{add-one}
 use lib.Dec.{leb, ltb, eqb}
-use lib.ListN.{length, getD, set, take, length-set}
-use lib.Seq.{getD-set-other, take-suc-set}
+use lib.ListN.{length, getD, set, take, length-set, length-map}
+use lib.Seq.{getD-set-other, take-suc, take-suc-set, length-take-le}
 use borrow.Author.Tests.{leb-true, ltb-true, ltb-false, eqb-true, eqb-false, le-leb, lt-leb, lt-ltb, le-ltb}
 use Rattle.model.specs.declared.Branch.{Branch}
 use Rattle.model.specs.declared.Record.{Record}
-use Rattle.model.specs.Store.{zero-branch, keep, any, _∈_}
+use Rattle.model.specs.declared.Name.{Name}
+use Rattle.model.specs.Store.{zero-branch, zero-name, moments, keep, any, _∈_}
 use Rattle.model.specs.Lookup.{holds, isAt}
-use Rattle.model.proofs.Base.{case, and→}
-use Rattle.model.specs.ByNumber.{find, candidates, branch, entry, newestOf, held, Line}
+use Rattle.model.proofs.Base.{case, and→, mem-append}
+use Rattle.model.specs.ByNumber.{find, candidates, deciding, branch, entry, nameRow, newestOf, held, Line}
 use Rattle.model.proofs.Ancestry.{→holds}
 use Rattle.model.proofs.ByNumber.{top, any-yes}
 use Rattle.branch_marks.specs.Marks.{Filled, bit, keptBranch}
 use Rattle.branch_marks.specs.Marks.{Held}
 use Rattle.record_marks.specs.Marks.{givenRow}
-use Rattle.deciding.specs.Deciding.{noneOlder, given, keptRecord, youngToo, Deciding}
+use Rattle.deciding.specs.Deciding.{noneOlder, given, keptRecord, youngToo, Started, Behind}
+
+-- the first r numbers are the moments that decide a reclaim to the floor m with these named ones
+pub record Deciding (bs : List Branch) (n m : ℕ) (named : List ℕ) (r : ℕ) (table : List ℕ) : Type 0 where
+  pub within : r ≤ length table
+  pub few : r ≤ n + 1 + length named
+  pub moments : take r table ≡ deciding named m (newestOf bs n)
 
 -- the starts above the floor
 abbrev pub starts : ℕ → List Branch → List ℕ
@@ -96,7 +105,7 @@ module _ {bs : List Branch} {n m i c : ℕ} {old table : List ℕ} (g : Gatherin
           ∙ (ap (λ (x : List ℕ). x ++ starts m (newestOf bs (i - 1))) (take-suc-set table c v (omega (arith, g .room, g .long)))
           ∙ append-assoc (take c table) (v ∷ []) (starts m (newestOf bs (i - 1))))
 
-pub gather-end : {bs : List Branch} {n m i c : ℕ} {old table : List ℕ} → Gathering bs n m i c (set old 0 m) table → i ≤ 0 → n < length old → Deciding bs n m c old table
+pub gather-end : {bs : List Branch} {n m i c : ℕ} {old table : List ℕ} → Gathering bs n m i c (set old 0 m) table → i ≤ 0 → n < length old → Started bs n m c old table
 gather-end {bs} {n} {m} {i} {c} {old} {table} g l r =
     let e : i ≡ 0 = omega arith in
     let z : length table ≡ length old = g .long ∙ length-set old 0 m in
@@ -104,6 +113,38 @@ gather-end {bs} {n} {m} {i} {c} {old} {table} g l r =
   where
     nothing-more : take c table ++ starts m (newestOf bs 0) ≡ take c table
     nothing-more = ap (λ (x : List ℕ). take c table ++ x) (starts-none m) ∙ append-nil (take c table)
+
+-- the moments of the first names: how many they are, and one after the other
+pub count-named : (ns : List Name) (k : ℕ) → k ≤ length ns → length (moments (take k ns)) ≡ k
+count-named ns k l = length-map (take k ns) (λ (n : Name). n .moment) ∙ length-take-le k ns l
+
+pub behind-start : (ns : List Name) (c : ℕ) (old : List ℕ) → Behind (moments (take 0 ns)) c (c + 0) old old
+behind-start ns c old = record { count = refl; first = rw (add-zero c) (sym (append-nil (take c old))); rest = λ k l. refl; long = refl }
+
+pub behind-step : (ns : List Name) (c j : ℕ) {v : ℕ} {old table : List ℕ} → Behind (moments (take j ns)) c (c + j) old table → j < length ns → c + j < length old → v ≡ nameRow ns j .moment
+    → Behind (moments (take (j + 1) ns)) c (c + (j + 1)) old (set table (c + j) v)
+behind-step ns c j {v} {old} {table} b l r e =
+    record {
+      count = omega (arith, count-named ns (j + 1) (omega arith));
+      first =
+          rw (add-one j, add-suc c j)
+          (take-suc-set table (c + j) v (omega (arith, b .long))
+          ∙ (ap (λ (x : List ℕ). x ++ (v ∷ [])) (b .first)
+          ∙ (append-assoc (take c old) (moments (take j ns)) (v ∷ []) ∙ ap (λ (x : List ℕ). take c old ++ x) (sym more))));
+      rest = λ k a. getD-set-other table (c + j) k v 0 (λ q. omega arith) ∙ b .rest k (omega arith);
+      long = length-set table (c + j) v ∙ b .long;
+    }
+  where
+    more : moments (take (suc j) ns) ≡ moments (take j ns) ++ (v ∷ [])
+    more =
+        ap moments (take-suc ns j zero-name l)
+        ∙ (map-append (λ (n : Name). n .moment) (take j ns) (nameRow ns j ∷ []) ∙ ap (λ (x : ℕ). moments (take j ns) ++ (x ∷ [])) (sym e))
+
+-- starts, and names behind them
+pub both-listed : {bs : List Branch} {n m c r : ℕ} {named old mid table : List ℕ} → Started bs n m c old mid → Behind named c r mid table → r ≤ length old → Deciding bs n m named r table
+both-listed {bs} {n} {m} {c} {r} {named} {old} {mid} {table} s b l =
+    let z : length table ≡ length old = b .long ∙ s .long in
+    record { within = omega arith; few = omega (arith, s .few, b .count); moments = b .first ∙ ap (λ (x : List ℕ). x ++ named) (s .moments) }
 
 -- the moments that decide are held
 row-held : (bs : List Branch) (n t i : ℕ) → n ≤ length bs → i < n → branch bs i .start ≤ t → t ≤ branch bs i .end → held bs n t ≡ true
@@ -122,15 +163,16 @@ start-row bs (suc k) m t l x =
     elim x″ [ inl e ↦ (k, omega arith, e) | inr y ↦ more y ])
     (λ d. more (rw (starts-skip m (branch bs k) (newestOf bs k) (ltb-false m (branch bs k .start) d)) at x′))
 
-pub deciding-held : {bs : List Branch} {n m r : ℕ} {start table : List ℕ} → Line bs n → n ≤ length bs → held bs n m ≡ true → Deciding bs n m r start table → Held bs n (take r table)
-deciding-held {bs} {n} {m} {r} {start} {table} h room hm d =
+pub deciding-held : {bs : List Branch} {n m r : ℕ} {named table : List ℕ} → Line bs n → n ≤ length bs → held bs n m ≡ true → Held bs n named → Deciding bs n m named r table
+    → Held bs n (take r table)
+deciding-held {bs} {n} {m} {r} {named} {table} h room hm hn d =
     record {
       each =
           λ t i.
-          let j : (t ≡ m) ⊎ (t ∈ starts m (newestOf bs n)) = rw (d .moments) at i in
-          elim j [
-            | inl e ↦ rw e hm
-            | inr x ↦ (let s = start-row bs n m t room x in rw (s .2) (start-held (s .0) (s .1)))
+          elim (mem-append t (candidates m (newestOf bs n)) named (rw (d .moments) at i)) [
+            | inl (inl e) ↦ rw e hm
+            | inl (inr x) ↦ (let s = start-row bs n m t room x in rw (s .2) (start-held (s .0) (s .1)))
+            | inr x ↦ hn .each t x
           ];
     }
   where
@@ -138,35 +180,35 @@ deciding-held {bs} {n} {m} {r} {start} {table} h room hm d =
     start-held i l = row-held bs n (branch bs i .start) i room l (omega arith) (h .stairs .ordered i l)
 
 -- the branches by the moments listed are those by the moments that decide
-pub kept-branches : {bs : List Branch} {n m r : ℕ} {start table old new : List ℕ} → Deciding bs n m r start table
-    → Filled (keptBranch bs n (take r table)) n old new → Filled (keptBranch bs n (candidates m (newestOf bs n))) n old new
+pub kept-branches : {bs : List Branch} {n m r : ℕ} {named table old new : List ℕ} → Deciding bs n m named r table
+    → Filled (keptBranch bs n (take r table)) n old new → Filled (keptBranch bs n (deciding named m (newestOf bs n))) n old new
 kept-branches d f = rw (d .moments) at f
 
 -- a byte of the marks with the young ones
 young-or : (rs : List Record) (m : ℕ) (mid : List ℕ) (k : ℕ) (x : Bool) → getD mid k 0 ≡ bit x → youngToo rs m mid k ≡ bit (leb m (entry rs k .moment) || x)
 young-or rs m mid k x e = case (leb m (entry rs k .moment)) (λ d. rw d) (λ d. rw d e)
 
-row-byte : (bs : List Branch) (n : ℕ) (rs : List Record) (nr m k : ℕ) (ts : List ℕ) → ts ≡ candidates m (newestOf bs n)
-    → givenRow bs n rs nr ts k ≡ bit (any (λ t. isAt (entry rs k .moment) (find (take nr rs) (entry rs k .address) (newestOf bs n) t)) (candidates m (newestOf bs n)))
+row-byte : (bs : List Branch) (n : ℕ) (rs : List Record) (nr m k : ℕ) (named ts : List ℕ) → ts ≡ deciding named m (newestOf bs n)
+    → givenRow bs n rs nr ts k ≡ bit (any (λ t. isAt (entry rs k .moment) (find (take nr rs) (entry rs k .address) (newestOf bs n) t)) (deciding named m (newestOf bs n)))
 unfolding givenRow
-row-byte bs n rs nr m k ts e = rw e
+row-byte bs n rs nr m k named ts e = rw e
 
-kept-byte : (bs : List Branch) (n : ℕ) (rs : List Record) (nr m k : ℕ)
-    → bit (leb m (entry rs k .moment) || any (λ t. isAt (entry rs k .moment) (find (take nr rs) (entry rs k .address) (newestOf bs n) t)) (candidates m (newestOf bs n))) ≡ keptRecord bs n rs nr m k
+kept-byte : (bs : List Branch) (n : ℕ) (rs : List Record) (nr m k : ℕ) (named : List ℕ)
+    → bit (leb m (entry rs k .moment) || any (λ t. isAt (entry rs k .moment) (find (take nr rs) (entry rs k .address) (newestOf bs n) t)) (deciding named m (newestOf bs n))) ≡ keptRecord bs n rs nr m named k
 unfolding given
-kept-byte bs n rs nr m k = refl
+kept-byte bs n rs nr m k named = refl
 
-pub kept-all : {bs : List Branch} {n : ℕ} (rs : List Record) {nr m r : ℕ} {start table old mid new : List ℕ} → Deciding bs n m r start table
-    → Filled (givenRow bs n rs nr (take r table)) nr old mid → Filled (youngToo rs m mid) nr mid new → Filled (keptRecord bs n rs nr m) nr old new
-kept-all {bs} {n} rs {nr} {m} {r} {start} {table} {old} {mid} {new} d f g =
+pub kept-all : {bs : List Branch} {n : ℕ} (rs : List Record) {nr m r : ℕ} {named table old mid new : List ℕ} → Deciding bs n m named r table
+    → Filled (givenRow bs n rs nr (take r table)) nr old mid → Filled (youngToo rs m mid) nr mid new → Filled (keptRecord bs n rs nr m named) nr old new
+kept-all {bs} {n} rs {nr} {m} {r} {named} {table} {old} {mid} {new} d f g =
     record {
       first = λ k l. g .first k l ∙ byte k l;
       rest = λ k l. g .rest k l ∙ f .rest k l;
       long = g .long ∙ f .long;
     }
   where
-    byte : (k : ℕ) → k < nr → youngToo rs m mid k ≡ keptRecord bs n rs nr m k
-    byte k l = young-or rs m mid k (any (λ t. isAt (entry rs k .moment) (find (take nr rs) (entry rs k .address) (newestOf bs n) t)) (candidates m (newestOf bs n))) (f .first k l ∙ row-byte bs n rs nr m k (take r table) (d .moments)) ∙ kept-byte bs n rs nr m k
+    byte : (k : ℕ) → k < nr → youngToo rs m mid k ≡ keptRecord bs n rs nr m named k
+    byte k l = young-or rs m mid k (any (λ t. isAt (entry rs k .moment) (find (take nr rs) (entry rs k .address) (newestOf bs n) t)) (deciding named m (newestOf bs n))) (f .first k l ∙ row-byte bs n rs nr m k named (take r table) (d .moments)) ∙ kept-byte bs n rs nr m k named
 
 -- where none is older, all are kept
 pub none-older→ : (rs : List Record) (m n : ℕ) → noneOlder rs m n ≡ true → (k : ℕ) → k < n → m ≤ entry rs k .moment
@@ -192,10 +234,10 @@ some-older rs m n k l a =
     (λ d. absurd (omega (arith, none-older→ rs m n d k l)))
     (λ d. d)
 
-pub kept-young : (bs : List Branch) (n : ℕ) (rs : List Record) (m : ℕ) {nr : ℕ} {old new : List ℕ} → noneOlder rs m nr ≡ true
-    → Filled (youngToo rs m old) nr old new → Filled (keptRecord bs n rs nr m) nr old new
+pub kept-young : (bs : List Branch) (n : ℕ) (rs : List Record) (m : ℕ) (named : List ℕ) {nr : ℕ} {old new : List ℕ} → noneOlder rs m nr ≡ true
+    → Filled (youngToo rs m old) nr old new → Filled (keptRecord bs n rs nr m named) nr old new
 unfolding given
-kept-young bs n rs m {nr} e f =
+kept-young bs n rs m named {nr} e f =
     record {
       first = λ k l. let y = le-leb m (entry rs k .moment) (none-older→ rs m nr e k l) in f .first k l ∙ rw y;
       rest = f .rest;

@@ -32,17 +32,26 @@ pub fn make(
     bt: &mut [u32],
     rt: &mut [u32],
     pt: &mut [u32],
+    nt: &mut [u32],
     slab: &[u8],
 ) -> Made
-    ensures { λ r. ⌜ Fresh head size (tables (now (bt .entry)) (now (rt .entry)) (now (pt .entry)) (now (slab .entry))) r (tables (now (bt .exit)) (now (rt .exit)) (now (pt .exit)) (now (slab .entry))) ⌝ }
+    ensures { λ r. ⌜ Fresh head size (tables (now (bt .entry)) (now (rt .entry)) (now (pt .entry)) (now (nt .entry)) (now (slab .entry))) r (tables (now (bt .exit)) (now (rt .exit)) (now (pt .exit)) (now (nt .exit)) (now (slab .entry))) ⌝ }
 {
-    let allowed = soundness::sizes_allowed(size, bt.len(), rt.len(), pt.len(), slab.len());
+    let allowed = soundness::sizes_allowed(
+        size,
+        bt.len(),
+        rt.len(),
+        pt.len(),
+        nt.len(),
+        slab.len(),
+    );
     if !allowed {
         return Made { head, refusal: 1 };
     }
     clear(bt);
     clear(rt);
     clear(pt);
+    clear(nt);
     rows::set_branch(
         bt,
         0,
@@ -53,11 +62,12 @@ pub fn make(
         },
     );
     let first = Head {
-        size,
+        size: size,
         branches: 1,
         records: 0,
         now: 0,
         floor: 0,
+        names: 0,
     };
     Made {
         head: first,

@@ -62,8 +62,9 @@ module _ (l : Lent) (fit : fits l ≡ true) where
     served-done : {d : Done} {h′ : List ℕ} {b′ : Tables} {area′ : List ℕ} → checkOf h (numbersIn (l .tables)) ≡ 0
         → RunSaved (batch (storeOf h (numbersIn (l .tables))) input (length area)) (l .tables) area d b′ area′
         → Written (headNumbers (d .head)) h′ → length (b′ .branches) ≡ length (l .tables .branches) → length (b′ .records) ≡ length (l .tables .records)
+        → length (b′ .names) ≡ length (l .tables .names)
         → BatchDone l input area (batchLeft (d .stop) (d .answered) (d .taken) (d .sent) (record { head = h′; tables = b′ }) area′)
-    served-done {d} {h′} {b′} {area′} c x e lb lr =
+    served-done {d} {h′} {b′} {area′} c x e lb lr ln =
         let run : Run = batch (storeIn l) input (length area) in
         let t : RunSaved run (l .tables) area d b′ area′ = rw eh at x in
         let w : Written (headNumbers (run .store .head)) h′ = rw (t .head) at e in
@@ -72,7 +73,7 @@ module _ (l : Lent) (fit : fits l ≡ true) where
         λ j. record { stop = t .stop j; answered = t .answered j; requestBytes = t .taken j; answerBytes = t .sent j; areas = a j; answers = t .answers j } in
         record {
           all = s ∙ sym (bytes-served l input area (same-check ∙ (ap (λ (x : Head). checkOf x (numbersIn (l .tables))) (sym eh) ∙ c)));
-          store = λ _. stored-again l (run .store) w (t .tables) (t .slab) lb lr;
+          store = λ _. stored-again l (run .store) w (t .tables) (t .slab) lb lr ln;
         }
 
     module _ {r : Tried} {b′ : Tables} {area′ : List ℕ} (t : TriedOn h (l .tables) input area r b′ area′) where
@@ -83,11 +84,11 @@ module _ (l : Lent) (fit : fits l ≡ true) where
           rw (u .2, u .3) (refused-done (u .0) (u .1))
 
       pub tried-served : {d : Done} {h′ : List ℕ} → r ≡ Served d → Written (headNumbers (d .head)) h′
-          → length (b′ .branches) ≡ length (l .tables .branches) → length (b′ .records) ≡ length (l .tables .records)
+          → length (b′ .branches) ≡ length (l .tables .branches) → length (b′ .records) ≡ length (l .tables .records) → length (b′ .names) ≡ length (l .tables .names)
           → BatchDone l input area (batchLeft (d .stop) (d .answered) (d .taken) (d .sent) (record { head = h′; tables = b′ }) area′)
-      tried-served {d} e w lb lr =
+      tried-served {d} e w lb lr ln =
           let u : TriedOn h (l .tables) input area (Served d) b′ area′ = rw e at t in
-          served-done (u .0) (u .1) w lb lr
+          served-done (u .0) (u .1) w lb lr ln
 
 -- numbers that were read, run on and written back
 pub run-saved-is : (h : Head) (b : Tables) (input : List ℕ) {t t′ b′ : Tables} {area area′ : List ℕ} {d : Done} → t ≡ numbersIn b

@@ -43,7 +43,7 @@ unfolding checkIn
 passes l s r = rw (r .holds .fit, r .holds .store) (sound-check s (r .sound))
 
 -- what a call leaves: the model's run, put into the areas
-served : (l : Lent) (s : Store) → Ready l s → (input area : List ℕ) → batchBytes l input area ≡ runLeft (batch s input (length area)) l area
+pub served : (l : Lent) (s : Store) → Ready l s → (input area : List ℕ) → batchBytes l input area ≡ runLeft (batch s input (length area)) l area
 served l s r input area = bytes-served l input area (passes l s r) ∙ rw (r .holds .store)
 
 ready-after : (l : Lent) (s : Store) → Ready l s → (c : AreaCall) → Ready (left l c .areas) (batch s (c .input) (length (c .area)) .store)

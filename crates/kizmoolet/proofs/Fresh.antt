@@ -10,9 +10,9 @@ use Rattle.model.specs.Store.{Store}
 use Rattle.model.specs.Soundness.{sizesAllowed}
 use Rattle.model.specs.Fresh.{freshCheck, fresh, madeFresh}
 use Rattle.model.proofs.Base.{case, absurd-test}
-use Rattle.rows.specs.Rows.{branchRowsOf, recordRowsOf}
-use Rattle.rows.specs.View.{Tables, laid}
-use Rattle.rows.proofs.Laws.{branch-kind, record-kind, branch-count, record-count}
+use Rattle.rows.specs.Rows.{branchRowsOf, recordRowsOf, nameRowsOf}
+use Rattle.rows.specs.View.{Tables, tables, laid}
+use Rattle.rows.proofs.Laws.{branch-kind, record-kind, name-kind, branch-count, record-count}
 use Rattle.rows.proofs.Relaid.{relaid-whole}
 use Rattle.soundness.specs.Check.{allowedOf, allowedIn}
 use Rattle.soundness.proofs.Sizes.{WholeRows}
@@ -52,7 +52,7 @@ module _ (size : ℕ) (l : Lent) (fit : fits l ≡ true) where
   slab-stays ok = sym (ap (λ (s : Store). s .slab) (sym (made-is ok) ∙ fresh-is first size T ok))
 
   -- refused
-  not-allowed : allowedIn size T ≡ false → sizesAllowed size (length (branchRowsOf (T .branches))) (length (recordRowsOf (T .records))) (length (T .places)) (length (T .slab)) ≡ false
+  not-allowed : allowedIn size T ≡ false → sizesAllowed size (length (branchRowsOf (T .branches))) (length (recordRowsOf (T .records))) (length (T .places)) (length (nameRowsOf (T .names))) (length (T .slab)) ≡ false
   not-allowed e = rw (fit-tables l fit) at (sym (allowed-rows size T) ∙ e)
 
   -- refused: 1, and the areas as they were
@@ -70,10 +70,10 @@ module _ (size : ℕ) (l : Lent) (fit : fits l ≡ true) where
 
     -- made: 0, and the model's store in the areas
     pub fresh-made : {h′ : List ℕ} → m .refusal ≡ 0 → b′ .slab ≡ l .tables .slab → Written (headNumbers (m .head)) h′
-        → length (b′ .branches) ≡ length (l .tables .branches) → length (b′ .records) ≡ length (l .tables .records)
+        → length (b′ .branches) ≡ length (l .tables .branches) → length (b′ .records) ≡ length (l .tables .records) → length (b′ .names) ≡ length (l .tables .names)
         → FreshDone size l (freshLeft 0 (record { head = h′; tables = b′ }))
     unfolding refusalOf
-    fresh-made {h′} z es e lb lr =
+    fresh-made {h′} z es e lb lr ln =
         case (allowedIn size T)
         (λ ok. made ok)
         (λ no. let o : m .refusal ≡ 1 = f .refusal ∙ rw no in absurd (omega arith))
@@ -86,13 +86,13 @@ module _ (size : ℕ) (l : Lent) (fit : fits l ≡ true) where
             let ss : b′ .slab ≡ s .slab = es ∙ slab-stays ok in
             record {
               all = ap (freshLeft 0) (stored-is l s w t ss) ∙ sym (made-bytes ok);
-              store = λ _. stored-again l s w t ss lb lr;
+              store = λ _. stored-again l s w t ss lb lr ln;
             }
 
 -- what is allowed, by the lengths alone
-same-allowed : (size : ℕ) (t u : Tables) → length (u .branches) ≡ length (t .branches) → length (u .records) ≡ length (t .records) → length (u .places) ≡ length (t .places) → u .slab ≡ t .slab
-    → allowedIn size u ≡ allowedIn size t
-same-allowed size t u eb er ep es i = allowedOf size (eb i) (er i) (ep i) (length (es i))
+same-allowed : (size : ℕ) (t u : Tables) → length (u .branches) ≡ length (t .branches) → length (u .records) ≡ length (t .records) → length (u .places) ≡ length (t .places)
+    → length (u .names) ≡ length (t .names) → u .slab ≡ t .slab → allowedIn size u ≡ allowedIn size t
+same-allowed size t u eb er ep en es i = allowedOf size (eb i) (er i) (ep i) (en i) (length (es i))
 
 -- a fresh store made in tables as long as those that bytes spell, and written there
 module _ {h₀ : Head} {size : ℕ} {b t t′ : Tables} {m : Made} (es : t .slab ≡ b .slab) (room : Room b t) (f : Fresh h₀ size t m t′) where
@@ -105,8 +105,11 @@ module _ {h₀ : Head} {size : ℕ} {b t t′ : Tables} {m : Made} (es : t .slab
   lp : length (t .places) ≡ length (numbersOf (b .places))
   lp = omega (arith, room .places, length-numbers (b .places))
 
+  ln : length (t .names) ≡ length (numbersOf (b .names))
+  ln = omega (arith, room .names, length-numbers (b .names))
+
   pub allowed-same : allowedIn size t ≡ allowedIn size (numbersIn b)
-  allowed-same = same-allowed size (numbersIn b) t lb lr lp es
+  allowed-same = same-allowed size (numbersIn b) t lb lr lp ln es
 
   refusal-same : m .refusal ≡ refusalOf size (numbersIn b)
   unfolding refusalOf
@@ -132,7 +135,8 @@ module _ {h₀ : Head} {size : ℕ} {b t t′ : Tables} {m : Made} (es : t .slab
         let v : WholeRows (numbersIn b) = allowed-whole size (numbersIn b) ok in
         let eb = relaid-whole branch-kind (t .branches) (w .branches) (s .branchRows) ∙ sym (relaid-whole branch-kind (numbersOf (b .branches)) (v .branches) (s .branchRows)) in
         let er = relaid-whole record-kind (t .records) (w .records) (s .recordRows) ∙ sym (relaid-whole record-kind (numbersOf (b .records)) (v .records) (s .recordRows)) in
-        f .tables ∙ (ap (λ (x : Store). laid x t) store-same ∙ (λ i. record { branches = eb i; records = er i; places = s .placeRows; slab = s .slab }))
+        let en = relaid-whole name-kind (t .names) (w .names) (s .nameRows) ∙ sym (relaid-whole name-kind (numbersOf (b .names)) (v .names) (s .nameRows)) in
+        f .tables ∙ (ap (λ (x : Store). laid x t) store-same ∙ (λ i. tables (eb i) (er i) (s .placeRows) (en i) (s .slab)))
 
   pub fresh-kept : {b′ : Tables} → (m .refusal ≡ 0 → ⊥) → b′ ≡ b → FreshSaved size b m b′
   unfolding refusalOf

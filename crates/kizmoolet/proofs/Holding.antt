@@ -9,11 +9,12 @@ use lib.ListN.{length}
 use Rattle.model.specs.declared.Head.{Head}
 use Rattle.model.specs.declared.Branch.{Branch}
 use Rattle.model.specs.declared.Record.{Record}
+use Rattle.model.specs.declared.Name.{Name}
 use Rattle.model.specs.Store.{Store}
-use Rattle.model.proofs.Kept.{Small, SmallHead, SmallBranch, SmallRecord, All, all-append, all-get, Narrow, Kept}
-use Rattle.rows.specs.Rows.{flat, branchFields, recordFields}
-use Rattle.rows.specs.View.{Tables, laid}
-use Rattle.rows.proofs.Laws.{branch-kind, record-kind, branch-count, record-count}
+use Rattle.model.proofs.Kept.{Small, SmallHead, SmallBranch, SmallRecord, SmallName, All, all-append, all-get, Narrow, Kept}
+use Rattle.rows.specs.Rows.{flat, branchFields, recordFields, nameFields}
+use Rattle.rows.specs.View.{Tables, tables, laid}
+use Rattle.rows.proofs.Laws.{branch-kind, record-kind, name-kind, branch-count, record-count, name-count}
 use Rattle.rows.proofs.Relaid.{relaid-whole, relaid-length}
 use Rattle.rows.proofs.View.{laid-on}
 use Rattle.soundness.proofs.Sizes.{WholeRows}
@@ -42,9 +43,12 @@ branch-small b s = small-cons (s .start) (small-cons (s .end) (small-cons (s .cu
 record-small : (r : Record) → SmallRecord r → All Small (recordFields r)
 record-small r s = small-cons (s .address) (small-cons (s .moment) (small-cons (s .place) small-none))
 
+name-small : (n : Name) → SmallName n → All Small (nameFields n)
+name-small n s = small-cons (s .high) (small-cons (s .low) (small-cons (s .moment) small-none))
+
 head-small : (h : Head) → SmallHead h → All Small (headNumbers h)
 head-small h s =
-    small-cons (s .size) (small-cons (s .branches) (small-cons (s .records) (small-cons (s .now) (small-cons (s .floor) small-none))))
+    small-cons (s .size) (small-cons (s .branches) (small-cons (s .records) (small-cons (s .now) (small-cons (s .floor) (small-cons (s .names) small-none)))))
 
 -- they are read again as they were written
 written : (ns : List ℕ) → All Small ns → Written ns (bytesOf ns)
@@ -70,12 +74,16 @@ module _ (l : Lent) (fit : fits l ≡ true) (s : Store) (k : Kept (storeIn l) s)
   records-flat : laid s T .records ≡ flat recordFields (s .recordRows)
   records-flat = relaid-whole record-kind (T .records) (whole .records) (s .recordRows)
 
+  names-flat : laid s T .names ≡ flat nameFields (s .nameRows)
+  names-flat = relaid-whole name-kind (T .names) (whole .names) (s .nameRows)
+
   saved : Saved (laid s T) (bytesIn (laid s T))
   saved =
       record {
         branches = written (laid s T .branches) (rw branches-flat (small-flat branchFields branch-small (s .branchRows) (n .branches)));
         records = written (laid s T .records) (rw records-flat (small-flat recordFields record-small (s .recordRows) (n .records)));
         places = written (s .placeRows) (n .places);
+        names = written (laid s T .names) (rw names-flat (small-flat nameFields name-small (s .nameRows) (n .names)));
       }
 
   head-written : Written (headNumbers (s .head)) (withStore l s .head)
@@ -98,17 +106,22 @@ module _ (l : Lent) (fit : fits l ≡ true) (s : Store) (k : Kept (storeIn l) s)
   places-long : length (withStore l s .tables .places) ≡ length (l .tables .places)
   places-long = long (s .placeRows) (l .tables .places) (k .places) (lengths-of l fit .places)
 
+  names-long : length (withStore l s .tables .names) ≡ length (l .tables .names)
+  names-long =
+      long (laid s T .names) (l .tables .names) (relaid-length name-kind (T .names) (s .nameRows) (k .names ∙ name-count (T .names)))
+      (omega (arith, lengths-of l fit .names))
+
   head-long : length (withStore l s .head) ≡ length (l .head)
   head-long = length-flat 4 (omega arith) (headNumbers (s .head)) ∙ sym (lengths-of l fit .head)
 
   pub stored-holds : Holds (withStore l s) s
   stored-holds =
       let e : numbersIn (withStore l s .tables) ≡ laid s T =
-      λ j. record { branches = saved .branches .again j; records = saved .records .again j; places = saved .places .again j; slab = s .slab } in
+      λ j. tables (saved .branches .again j) (saved .records .again j) (saved .places .again j) (saved .names .again j) (s .slab) in
       let same : laid s (numbersIn (withStore l s .tables)) ≡ laid s T =
-      laid-on s e (same-numbers (l .tables) (withStore l s .tables) branches-long records-long) s in
+      laid-on s e (same-numbers (l .tables) (withStore l s .tables) branches-long records-long names-long) s in
       record {
-        fit = (λ j. lengthsFit (head-long j) (branches-long j) (records-long j) (places-long j)) ∙ fit;
-        store = stored-again l s head-written saved refl branches-long records-long;
+        fit = (λ j. lengthsFit (head-long j) (branches-long j) (records-long j) (places-long j) (names-long j)) ∙ fit;
+        store = stored-again l s head-written saved refl branches-long records-long names-long;
         areas = λ j. record { head = withStore l s .head; tables = bytesIn (same j) };
       }

@@ -7,21 +7,20 @@ use native.Mathlib.Omega.{arith}
 use lib.ListN.{length, getD, take, drop, length-drop}
 use lib.Seq.{length-take-le, getD-drop}
 use Rattle.model.specs.Store.{Store}
-use Rattle.model.specs.Wire.{number}
 use Rattle.model.specs.Fresh.{madeFresh}
 use Rattle.model.specs.Reference.{empty}
 use Rattle.model.specs.Demand3.{after, answered, fed, Agrees}
 use Rattle.model.specs.Packed.{slabInUse, HeldUpTo, Copy}
 use Rattle.model.proofs.Bytes.{number-fits, take-fits}
-use Rattle.model.proofs.Kept.{Small, SmallBranch, SmallRecord, All, all-get, Narrow}
+use Rattle.model.proofs.Kept.{Small, SmallBranch, SmallRecord, SmallName, All, all-get, Narrow}
 use Rattle.model.proofs.Copies.{copy-sound, stays-packed, copies-agree}
-use Rattle.rows.specs.Rows.{tab, rowsBy, branchRowsOf, recordRowsOf}
-use Rattle.rows.specs.View.{Tables}
+use Rattle.rows.specs.Rows.{tab, rowsBy, branchRowsOf, recordRowsOf, nameRowsOf}
+use Rattle.rows.specs.View.{tables}
 use Rattle.rows.proofs.View.{laid-self}
 use Rattle.tables.specs.Numbers.{spelledAt, spelled, numbersOf, headOf}
 use Rattle.tables.specs.Tables.{numbersIn, bytesIn}
 use Rattle.tables.proofs.RoundTrip.{bytes-numbers, bytes-head}
-use Rattle.kizmoolet.specs.Lent.{Lent, fits, storeIn, withStore}
+use Rattle.kizmoolet.specs.Lent.{Lent, storeIn}
 use Rattle.kizmoolet.specs.Fresh.{freshBytes}
 use Rattle.kizmoolet.specs.Demand3.{areasAfter, answeredIn}
 use Rattle.kizmoolet.specs.Packed.{StaysPacked, Bytes, CopyIn, CopiesAgree}
@@ -67,15 +66,20 @@ records-small : (bs : List ℕ) → Bytes bs → All SmallRecord (recordRowsOf (
 unfolding rowsBy
 records-small bs h = all-tab (length (numbersOf bs) / 3) _ (λ i l. record { address = at-small bs h (i * 3 + 0); moment = at-small bs h (i * 3 + 1); place = at-small bs h (i * 3 + 2) })
 
+names-small : (bs : List ℕ) → Bytes bs → All SmallName (nameRowsOf (numbersOf bs))
+unfolding rowsBy
+names-small bs h = all-tab (length (numbersOf bs) / 3) _ (λ i l. record { high = at-small bs h (i * 3 + 0); low = at-small bs h (i * 3 + 1); moment = at-small bs h (i * 3 + 2) })
+
 module _ (l c : Lent) (k : CopyIn l c) where
   copy-narrow : Narrow (storeIn c)
   copy-narrow =
       let at = at-small (c .head) (k .head) in
       record {
-        head = record { size = at 0; branches = at 1; records = at 2; now = at 3; floor = at 4 };
+        head = record { size = at 0; branches = at 1; records = at 2; now = at 3; floor = at 4; names = at 5 };
         branches = branches-small (c .tables .branches) (k .branches);
         records = records-small (c .tables .records) (k .records);
         places = numbers-small (c .tables .places) (k .places);
+        names = names-small (c .tables .names) (k .names);
       }
 
   -- bytes put back are the bytes that were read
@@ -85,7 +89,8 @@ module _ (l c : Lent) (k : CopyIn l c) where
       let b = bytes-numbers (c .tables .branches) (omega (arith, n .branches)) (k .branches) in
       let r = bytes-numbers (c .tables .records) (omega (arith, n .records)) (k .records) in
       let p = bytes-numbers (c .tables .places) (n .places) (k .places) in
-      λ j. record { branches = b j; records = r j; places = p j; slab = c .tables .slab }
+      let m = bytes-numbers (c .tables .names) (omega (arith, n .names)) (k .names) in
+      λ j. tables (b j) (r j) (p j) (m j) (c .tables .slab)
 
   copy-holds : Holds c (storeIn c)
   copy-holds =

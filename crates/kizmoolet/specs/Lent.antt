@@ -13,12 +13,13 @@ pub record Lent : Type 0 where
   pub head : List ℕ
   pub tables : Tables
 
-abbrev pub lent : List ℕ → List ℕ → List ℕ → List ℕ → List ℕ → Lent
-lent head branches records places slab = record { head = head; tables = tables branches records places slab }
+abbrev pub lent : List ℕ → List ℕ → List ℕ → List ℕ → List ℕ → List ℕ → Lent
+lent head branches records places names slab = record { head = head; tables = tables branches records places names slab }
 
--- whether head and tables are whole numbers of rows long, and no longer than may be lent
+-- whether head and tables are as long as may be lent: whole numbers of rows, and 32 name rows
 abbrev pub fits : Lent → Bool
-fits l = lengthsFit (length (l .head)) (length (l .tables .branches)) (length (l .tables .records)) (length (l .tables .places))
+fits l =
+    lengthsFit (length (l .head)) (length (l .tables .branches)) (length (l .tables .records)) (length (l .tables .places)) (length (l .tables .names))
 
 -- the store that the areas hold
 abbrev pub storeIn : Lent → Store

@@ -3,3 +3,4 @@ pub mod Fresh
 pub mod Batch
 pub mod Demand3
 pub mod Packed
+pub mod Commissioned

@@ -29,6 +29,7 @@ pub record CopyIn (l c : Lent) : Type 0 where
   pub branches : Bytes (c .tables .branches)
   pub records : Bytes (c .tables .records)
   pub places : Bytes (c .tables .places)
+  pub names : Bytes (c .tables .names)
   pub copy : Copy (storeIn l) (storeIn c)
 
 -- a list of calls on the areas of a fresh store, a copy of them, and a list of calls on the copy: what demand 3 claims holds of the one

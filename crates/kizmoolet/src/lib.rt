@@ -27,13 +27,15 @@ fn fresh_tables(
     branches: &mut [u8],
     records: &mut [u8],
     places: &mut [u8],
+    names: &mut [u8],
     slab: &[u8],
     bt: &mut [u32],
     rt: &mut [u32],
     pt: &mut [u32],
+    nt: &mut [u32],
 ) -> Made
-    requires { ⌜ Room (numberTables (now branches) (now records) (now places)) (numberTables (now bt) (now rt) (now pt)) ⌝ }
-    ensures { λ r. ⌜ FreshSaved size (tables (now (branches .entry)) (now (records .entry)) (now (places .entry)) (now (slab .entry))) r (tables (now (branches .exit)) (now (records .exit)) (now (places .exit)) (now (slab .entry))) ⌝ }
+    requires { ⌜ Room (numberTables (now branches) (now records) (now places) (now names)) (numberTables (now bt) (now rt) (now pt) (now nt)) ⌝ }
+    ensures { λ r. ⌜ FreshSaved size (tables (now (branches .entry)) (now (records .entry)) (now (places .entry)) (now (names .entry)) (now (slab .entry))) r (tables (now (branches .exit)) (now (records .exit)) (now (places .exit)) (now (names .exit)) (now (slab .entry))) ⌝ }
 {
     let none = Head {
         size: 0,
@@ -41,12 +43,13 @@ fn fresh_tables(
         records: 0,
         now: 0,
         floor: 0,
+        names: 0,
     };
-    let made = fresh::make(none, size, bt, rt, pt, slab);
+    let made = fresh::make(none, size, bt, rt, pt, nt, slab);
     if made.refusal != 0 {
         return made;
     }
-    tables::save(bt, rt, pt, branches, records, places);
+    tables::save(bt, rt, pt, nt, branches, records, places, names);
     made
 }
 
@@ -57,10 +60,11 @@ fn fresh_areas(
     branches: &mut [u8],
     records: &mut [u8],
     places: &mut [u8],
+    names: &mut [u8],
     slab: &[u8],
 ) -> u32
-    requires { ⌜ fits (lent (now head) (now branches) (now records) (now places) (now slab)) ≡ true ⌝ }
-    ensures { λ r. ⌜ FreshDone size (lent (now (head .entry)) (now (branches .entry)) (now (records .entry)) (now (places .entry)) (now (slab .entry))) (freshLeft r (lent (now (head .exit)) (now (branches .exit)) (now (records .exit)) (now (places .exit)) (now (slab .entry)))) ⌝ }
+    requires { ⌜ fits (lent (now head) (now branches) (now records) (now places) (now names) (now slab)) ≡ true ⌝ }
+    ensures { λ r. ⌜ FreshDone size (lent (now (head .entry)) (now (branches .entry)) (now (records .entry)) (now (places .entry)) (now (names .entry)) (now (slab .entry))) (freshLeft r (lent (now (head .exit)) (now (branches .exit)) (now (records .exit)) (now (places .exit)) (now (names .exit)) (now (slab .entry)))) ⌝ }
 {
     let nb = branches.len() / 4;
     let nr = records.len() / 4;
@@ -68,15 +72,18 @@ fn fresh_areas(
     let mut bt = tables::branch_room();
     let mut rt = tables::record_room();
     let mut pt = tables::place_room();
+    let mut nt = tables::name_room();
     let made = fresh_tables(
         size,
         branches,
         records,
         places,
+        names,
         slab,
         &mut bt[..nb],
         &mut rt[..nr],
         &mut pt[..np],
+        &mut nt,
     );
     let refusal = made.refusal;
     if refusal != 0 {
@@ -95,15 +102,22 @@ pub extern "C" fn kizmoolet_fresh(
     branches: &mut [u8],
     records: &mut [u8],
     places: &mut [u8],
+    names: &mut [u8],
     slab: &[u8],
 ) -> u32
-    ensures { λ r. ⌜ FreshDone size (lent (now (head .entry)) (now (branches .entry)) (now (records .entry)) (now (places .entry)) (now (slab .entry))) (freshLeft r (lent (now (head .exit)) (now (branches .exit)) (now (records .exit)) (now (places .exit)) (now (slab .entry)))) ⌝ }
+    ensures { λ r. ⌜ FreshDone size (lent (now (head .entry)) (now (branches .entry)) (now (records .entry)) (now (places .entry)) (now (names .entry)) (now (slab .entry))) (freshLeft r (lent (now (head .exit)) (now (branches .exit)) (now (records .exit)) (now (places .exit)) (now (names .exit)) (now (slab .entry)))) ⌝ }
 {
-    let fit = tables::lengths_fit(head.len(), branches.len(), records.len(), places.len());
+    let fit = tables::lengths_fit(
+        head.len(),
+        branches.len(),
+        records.len(),
+        places.len(),
+        names.len(),
+    );
     if !fit {
         return 1;
     }
-    fresh_areas(size, head, branches, records, places, slab)
+    fresh_areas(size, head, branches, records, places, names, slab)
 }
 
 // The numbers of the tables, and the refusal of the table checks. The areas are only read.
@@ -112,17 +126,19 @@ fn load_checked(
     branches: &[u8],
     records: &[u8],
     places: &[u8],
+    names: &[u8],
     slab: &[u8],
     bt: &mut [u32],
     rt: &mut [u32],
     pt: &mut [u32],
+    nt: &mut [u32],
 ) -> u32
-    requires { ⌜ Room (numberTables (now branches) (now records) (now places)) (numberTables (now bt) (now rt) (now pt)) ⌝ }
-    ensures { λ r. ⌜ r ≡ checkOf head (numbersIn (tables (now (branches .entry)) (now (records .entry)) (now (places .entry)) (now (slab .entry)))) ⌝ }
-    ensures { λ _. ⌜ numberTables (now (bt .exit)) (now (rt .exit)) (now (pt .exit)) ≡ numbersIn (numberTables (now (branches .entry)) (now (records .entry)) (now (places .entry))) ⌝ }
+    requires { ⌜ Room (numberTables (now branches) (now records) (now places) (now names)) (numberTables (now bt) (now rt) (now pt) (now nt)) ⌝ }
+    ensures { λ r. ⌜ r ≡ checkOf head (numbersIn (tables (now (branches .entry)) (now (records .entry)) (now (places .entry)) (now (names .entry)) (now (slab .entry)))) ⌝ }
+    ensures { λ _. ⌜ numberTables (now (bt .exit)) (now (rt .exit)) (now (pt .exit)) (now (nt .exit)) ≡ numbersIn (numberTables (now (branches .entry)) (now (records .entry)) (now (places .entry)) (now (names .entry))) ⌝ }
 {
-    tables::load(branches, records, places, bt, rt, pt);
-    soundness::check(head, bt, rt, pt, slab)
+    tables::load(branches, records, places, names, bt, rt, pt, nt);
+    soundness::check(head, bt, rt, pt, nt, slab)
 }
 
 // A batch on sound tables, which are those of the areas, and then written there.
@@ -131,20 +147,22 @@ fn run_saved(
     branches: &mut [u8],
     records: &mut [u8],
     places: &mut [u8],
+    names: &mut [u8],
     slab: &mut [u8],
     input: &[u8],
     answers: &mut [u8],
     bt: &mut [u32],
     rt: &mut [u32],
     pt: &mut [u32],
+    nt: &mut [u32],
 ) -> Done
-    requires { ⌜ Room (numberTables (now branches) (now records) (now places)) (numberTables (now bt) (now rt) (now pt)) ⌝ }
-    requires { ⌜ numberTables (now bt) (now rt) (now pt) ≡ numbersIn (numberTables (now branches) (now records) (now places)) ⌝ }
-    requires { ⌜ Sound (storeOf head (tables (now bt) (now rt) (now pt) (now slab))) ⌝ }
-    ensures { λ r. ⌜ RunSaved (batch (storeOf head (numbersIn (tables (now (branches .entry)) (now (records .entry)) (now (places .entry)) (now (slab .entry))))) (now (input .entry)) (length (now (answers .entry)))) (tables (now (branches .entry)) (now (records .entry)) (now (places .entry)) (now (slab .entry))) (now (answers .entry)) r (tables (now (branches .exit)) (now (records .exit)) (now (places .exit)) (now (slab .exit))) (now (answers .exit)) ⌝ }
+    requires { ⌜ Room (numberTables (now branches) (now records) (now places) (now names)) (numberTables (now bt) (now rt) (now pt) (now nt)) ⌝ }
+    requires { ⌜ numberTables (now bt) (now rt) (now pt) (now nt) ≡ numbersIn (numberTables (now branches) (now records) (now places) (now names)) ⌝ }
+    requires { ⌜ Sound (storeOf head (tables (now bt) (now rt) (now pt) (now nt) (now slab))) ⌝ }
+    ensures { λ r. ⌜ RunSaved (batch (storeOf head (numbersIn (tables (now (branches .entry)) (now (records .entry)) (now (places .entry)) (now (names .entry)) (now (slab .entry))))) (now (input .entry)) (length (now (answers .entry)))) (tables (now (branches .entry)) (now (records .entry)) (now (places .entry)) (now (names .entry)) (now (slab .entry))) (now (answers .entry)) r (tables (now (branches .exit)) (now (records .exit)) (now (places .exit)) (now (names .exit)) (now (slab .exit))) (now (answers .exit)) ⌝ }
 {
-    let done = batch::run(head, bt, rt, pt, slab, input, answers);
-    tables::save(bt, rt, pt, branches, records, places);
+    let done = batch::run(head, bt, rt, pt, nt, slab, input, answers);
+    tables::save(bt, rt, pt, nt, branches, records, places, names);
     done
 }
 
@@ -154,17 +172,19 @@ fn batch_tables(
     branches: &mut [u8],
     records: &mut [u8],
     places: &mut [u8],
+    names: &mut [u8],
     slab: &mut [u8],
     batch: &[u8],
     answers: &mut [u8],
     bt: &mut [u32],
     rt: &mut [u32],
     pt: &mut [u32],
+    nt: &mut [u32],
 ) -> Tried
-    requires { ⌜ Room (numberTables (now branches) (now records) (now places)) (numberTables (now bt) (now rt) (now pt)) ⌝ }
-    ensures { λ r. ⌜ TriedOn head (tables (now (branches .entry)) (now (records .entry)) (now (places .entry)) (now (slab .entry))) (now (batch .entry)) (now (answers .entry)) r (tables (now (branches .exit)) (now (records .exit)) (now (places .exit)) (now (slab .exit))) (now (answers .exit)) ⌝ }
+    requires { ⌜ Room (numberTables (now branches) (now records) (now places) (now names)) (numberTables (now bt) (now rt) (now pt) (now nt)) ⌝ }
+    ensures { λ r. ⌜ TriedOn head (tables (now (branches .entry)) (now (records .entry)) (now (places .entry)) (now (names .entry)) (now (slab .entry))) (now (batch .entry)) (now (answers .entry)) r (tables (now (branches .exit)) (now (records .exit)) (now (places .exit)) (now (names .exit)) (now (slab .exit))) (now (answers .exit)) ⌝ }
 {
-    let refusal = load_checked(head, branches, records, places, slab, bt, rt, pt);
+    let refusal = load_checked(head, branches, records, places, names, slab, bt, rt, pt, nt);
     if refusal != 0 {
         return Tried::Refused(refusal);
     }
@@ -173,12 +193,14 @@ fn batch_tables(
         branches,
         records,
         places,
+        names,
         slab,
         batch,
         answers,
         bt,
         rt,
         pt,
+        nt,
     );
     Tried::Served(done)
 }
@@ -189,12 +211,13 @@ fn batch_areas(
     branches: &mut [u8],
     records: &mut [u8],
     places: &mut [u8],
+    names: &mut [u8],
     slab: &mut [u8],
     batch: &[u8],
     answers: &mut [u8],
 ) -> Done
-    requires { ⌜ fits (lent (now head) (now branches) (now records) (now places) (now slab)) ≡ true ⌝ }
-    ensures { λ r. ⌜ BatchDone (lent (now (head .entry)) (now (branches .entry)) (now (records .entry)) (now (places .entry)) (now (slab .entry))) (now (batch .entry)) (now (answers .entry)) (batchLeft (r .stop) (r .answered) (r .taken) (r .sent) (lent (now (head .exit)) (now (branches .exit)) (now (records .exit)) (now (places .exit)) (now (slab .exit))) (now (answers .exit))) ⌝ }
+    requires { ⌜ fits (lent (now head) (now branches) (now records) (now places) (now names) (now slab)) ≡ true ⌝ }
+    ensures { λ r. ⌜ BatchDone (lent (now (head .entry)) (now (branches .entry)) (now (records .entry)) (now (places .entry)) (now (names .entry)) (now (slab .entry))) (now (batch .entry)) (now (answers .entry)) (batchLeft (r .stop) (r .answered) (r .taken) (r .sent) (lent (now (head .exit)) (now (branches .exit)) (now (records .exit)) (now (places .exit)) (now (names .exit)) (now (slab .exit))) (now (answers .exit))) ⌝ }
 {
     let nb = branches.len() / 4;
     let nr = records.len() / 4;
@@ -203,17 +226,20 @@ fn batch_areas(
     let mut bt = tables::branch_room();
     let mut rt = tables::record_room();
     let mut pt = tables::place_room();
+    let mut nt = tables::name_room();
     let tried = batch_tables(
         first,
         branches,
         records,
         places,
+        names,
         slab,
         batch,
         answers,
         &mut bt[..nb],
         &mut rt[..nr],
         &mut pt[..np],
+        &mut nt,
     );
     match tried {
         Tried::Refused(n) => batch::report(first, n, 0, 0, 0),
@@ -233,6 +259,7 @@ pub extern "C" fn kizmoolet_batch(
     branches: &mut [u8],
     records: &mut [u8],
     places: &mut [u8],
+    names: &mut [u8],
     slab: &mut [u8],
     batch: &[u8],
     answers: &mut [u8],
@@ -240,16 +267,22 @@ pub extern "C" fn kizmoolet_batch(
     taken: &mut u64,
     sent: &mut u64,
 ) -> u32
-    ensures { λ r. ⌜ BatchDone (lent (now (head .entry)) (now (branches .entry)) (now (records .entry)) (now (places .entry)) (now (slab .entry))) (now (batch .entry)) (now (answers .entry)) (batchLeft r (now (answered .exit)) (now (taken .exit)) (now (sent .exit)) (lent (now (head .exit)) (now (branches .exit)) (now (records .exit)) (now (places .exit)) (now (slab .exit))) (now (answers .exit))) ⌝ }
+    ensures { λ r. ⌜ BatchDone (lent (now (head .entry)) (now (branches .entry)) (now (records .entry)) (now (places .entry)) (now (names .entry)) (now (slab .entry))) (now (batch .entry)) (now (answers .entry)) (batchLeft r (now (answered .exit)) (now (taken .exit)) (now (sent .exit)) (lent (now (head .exit)) (now (branches .exit)) (now (records .exit)) (now (places .exit)) (now (names .exit)) (now (slab .exit))) (now (answers .exit))) ⌝ }
 {
-    let fit = tables::lengths_fit(head.len(), branches.len(), records.len(), places.len());
+    let fit = tables::lengths_fit(
+        head.len(),
+        branches.len(),
+        records.len(),
+        places.len(),
+        names.len(),
+    );
     if !fit {
         *answered = 0;
         *taken = 0;
         *sent = 0;
         return 1;
     }
-    let done = batch_areas(head, branches, records, places, slab, batch, answers);
+    let done = batch_areas(head, branches, records, places, names, slab, batch, answers);
     *answered = done.answered as u64;
     *taken = done.taken as u64;
     *sent = done.sent as u64;

@@ -16,9 +16,9 @@ use Rattle.model.specs.Soundness.{sizesAllowed, inRange, tableCheck, between}
 use Rattle.model.specs.Batch.{Run, batch, ended}
 use Rattle.model.specs.Fresh.{freshCheck, madeFresh}
 use Rattle.model.proofs.Base.{case, and→}
-use Rattle.rows.specs.Rows.{branchWidth, branchRowsOf, recordRowsOf, BranchesIn}
+use Rattle.rows.specs.Rows.{branchWidth, branchRowsOf, recordRowsOf, nameRowsOf, BranchesIn}
 use Rattle.rows.specs.View.{Tables, tables, storeOf, laid}
-use Rattle.rows.proofs.Laws.{branch-kind, record-kind, relaid-own}
+use Rattle.rows.proofs.Laws.{branch-kind, record-kind, name-kind, relaid-own}
 use Rattle.rows.proofs.Relaid.{front-rows}
 use Rattle.soundness.specs.Check.{wholeRows, wholeTables, allowedIn}
 use Rattle.soundness.proofs.Checked.{allowed-rows}
@@ -26,17 +26,17 @@ use Rattle.batch.specs.declared.Done.{Done}
 use Rattle.batch.specs.Batch.{batchOf, BatchLeaves as CoreLeaves}
 use Rattle.fresh.specs.declared.Made.{Made}
 use Rattle.fresh.specs.Fresh.{freshOf, refusalOf, Fresh}
-use Rattle.lent.specs.Lent.{Lent, lent, lentStore, laidOver, wholeRecords, lentBatch, lentFresh, lentRefusal, BatchLeaves, FreshLeaves}
+use Rattle.lent.specs.Lent.{Lent, lent, lentStore, laidOver, wholeOthers, lentBatch, lentFresh, lentRefusal, BatchLeaves, FreshLeaves}
 use Rattle.lent.proofs.Loading.{relaid-first}
 
 -- a fresh store of sizes that are not allowed is not made
-not-made : (s : Store) (size : ℕ) → sizesAllowed size (length (s .branchRows)) (length (s .recordRows)) (length (s .placeRows)) (length (s .slab)) ≡ false → madeFresh s size ≡ s
+not-made : (s : Store) (size : ℕ) → sizesAllowed size (length (s .branchRows)) (length (s .recordRows)) (length (s .placeRows)) (length (s .nameRows)) (length (s .slab)) ≡ false → madeFresh s size ≡ s
 unfolding madeFresh
 not-made s size e = rw e
 
 -- what is lent, laid over itself
 laid-itself : (head : Head) (l : Lent) → l ≡ laidOver (lentStore head l) l
-laid-itself head l i = record { branches = l .branches; records = sym (relaid-own record-kind (l .records)) i; places = l .places; slab = l .slab }
+laid-itself head l i = record { branches = l .branches; records = sym (relaid-own record-kind (l .records)) i; places = l .places; names = sym (relaid-own name-kind (l .names)) i; slab = l .slab }
 
 -- n rows of a flat table, and what a call on their numbers leaves in the table
 module _ (n : ℕ) (t : List ℕ) (fits : BranchesIn n t) where
@@ -49,41 +49,41 @@ module _ (n : ℕ) (t : List ℕ) (fits : BranchesIn n t) where
   length-front : length front ≡ n * branchWidth
   length-front = length-take-le (n * branchWidth) t fits
 
-  module _ (rt pt slab : List ℕ) where
+  module _ (rt pt nt slab : List ℕ) where
     -- the numbers of the rows with the other tables, and the rows with them
     abbrev T : Tables
-    T = tables front rt pt slab
+    T = tables front rt pt nt slab
 
     abbrev L : Lent
-    L = lent (take n (branchRowsOf t)) rt pt slab
+    L = lent (take n (branchRowsOf t)) rt pt nt slab
 
     -- the branch rows are whole
-    front-whole : wholeTables T ≡ wholeRecords L
+    front-whole : wholeTables T ≡ wholeOthers L
     unfolding wholeRows
     front-whole = let e : length front % branchWidth ≡ 0 = rw length-front (mul-mod-left n branchWidth) in rw e
 
     front-store : (head : Head) → storeOf head T ≡ lentStore head L
-    front-store head = ap (λ (r : List Branch). lentStore head (lent r rt pt slab)) (front-rows branch-kind n t fits)
+    front-store head = ap (λ (r : List Branch). lentStore head (lent r rt pt nt slab)) (front-rows branch-kind n t fits)
 
     batch-front : (head : Head) (input : List ℕ) (space : ℕ) → batchOf head T input space ≡ lentBatch head L input space
     unfolding batchOf lentBatch
     batch-front head input space = rw (front-whole, front-store head)
 
     -- the sizes that are allowed, of the rows
-    front-allowed : (size : ℕ) → allowedIn size T ≡ (wholeRecords L && sizesAllowed size (length (L .branches)) (length (recordRowsOf rt)) (length pt) (length slab))
+    front-allowed : (size : ℕ) → allowedIn size T ≡ (wholeOthers L && sizesAllowed size (length (L .branches)) (length (recordRowsOf rt)) (length pt) (length (nameRowsOf nt)) (length slab))
     front-allowed size = allowed-rows size T ∙ rw (front-whole, front-rows branch-kind n t fits)
 
     fresh-front : (head : Head) (size : ℕ) → freshOf head T size ≡ lentFresh head L size
     unfolding freshOf lentFresh
     fresh-front head size =
         rw (front-store head, front-allowed size)
-        (case (wholeRecords L)
-        (λ e. rw e (case (sizesAllowed size (length (L .branches)) (length (recordRowsOf rt)) (length pt) (length slab)) (λ a. rw a) (λ a. rw a (sym (not-made (lentStore head L) size a)))))
+        (case (wholeOthers L)
+        (λ e. rw e (case (sizesAllowed size (length (L .branches)) (length (recordRowsOf rt)) (length pt) (length (nameRowsOf nt)) (length slab)) (λ a. rw a) (λ a. rw a (sym (not-made (lentStore head L) size a)))))
         (λ e. rw e))
 
     refusal-front : (head : Head) (size : ℕ) → refusalOf size T ≡ lentRefusal head L size
     unfolding refusalOf lentRefusal freshCheck
-    refusal-front head size = rw (front-allowed size) (case (wholeRecords L) (λ e. rw e) (λ e. rw e))
+    refusal-front head size = rw (front-allowed size) (case (wholeOthers L) (λ e. rw e) (λ e. rw e))
 
     module _ (u : List ℕ) (same : length (u ++ rest) ≡ length t) where
       length-back : length u ≡ length front
@@ -94,16 +94,16 @@ module _ (n : ℕ) (t : List ℕ) (fits : BranchesIn n t) where
       rest-stays = drop-at u rest (n * branchWidth) (length-back ∙ length-front)
 
       -- a store laid over the numbers is laid over the rows
-      back : (s : Store) {rt′ pt′ slab′ : List ℕ} → tables u rt′ pt′ slab′ ≡ laid s T → lent (take n (branchRowsOf (u ++ rest))) rt′ pt′ slab′ ≡ laidOver s L
+      back : (s : Store) {rt′ pt′ nt′ slab′ : List ℕ} → tables u rt′ pt′ nt′ slab′ ≡ laid s T → lent (take n (branchRowsOf (u ++ rest))) rt′ pt′ nt′ slab′ ≡ laidOver s L
       back s e =
           let b : take n (branchRowsOf (u ++ rest)) ≡ s .branchRows =
           relaid-first branch-kind n front u rest (s .branchRows) length-front length-back (ap (λ (x : Tables). x .branches) e) in
-          λ i. record { branches = b i; records = e i .records; places = e i .places; slab = e i .slab }
+          λ i. record { branches = b i; records = e i .records; places = e i .places; names = e i .names; slab = e i .slab }
 
       -- the core's batch on the rows' numbers is the batch on the rows
-      pub batch-back : (head : Head) (input area : List ℕ) {d : Done} {rt′ pt′ slab′ area′ : List ℕ}
-          → CoreLeaves (batchOf head T input (length area)) T area d (tables u rt′ pt′ slab′) area′
-          → BatchLeaves (lentBatch head L input (length area)) L area (record { stop = d .stop; answered = d .answered; taken = d .taken; sent = d .sent }) (d .head) (lent (take n (branchRowsOf (u ++ rest))) rt′ pt′ slab′) area′
+      pub batch-back : (head : Head) (input area : List ℕ) {d : Done} {rt′ pt′ nt′ slab′ area′ : List ℕ}
+          → CoreLeaves (batchOf head T input (length area)) T area d (tables u rt′ pt′ nt′ slab′) area′
+          → BatchLeaves (lentBatch head L input (length area)) L area (record { stop = d .stop; answered = d .answered; taken = d .taken; sent = d .sent }) (d .head) (lent (take n (branchRowsOf (u ++ rest))) rt′ pt′ nt′ slab′) area′
       batch-back head input area l =
           let run : Run = batchOf head T input (length area) in
           rw (sym (batch-front head input (length area)))
@@ -118,8 +118,8 @@ module _ (n : ℕ) (t : List ℕ) (fits : BranchesIn n t) where
           })
 
       -- and so is making a fresh store
-      pub fresh-back : (head : Head) (size : ℕ) {m : Made} {rt′ pt′ : List ℕ} → Fresh head size T m (tables u rt′ pt′ slab)
-          → FreshLeaves head L size (m .refusal) (m .head) (lent (take n (branchRowsOf (u ++ rest))) rt′ pt′ slab)
+      pub fresh-back : (head : Head) (size : ℕ) {m : Made} {rt′ pt′ nt′ : List ℕ} → Fresh head size T m (tables u rt′ pt′ nt′ slab)
+          → FreshLeaves head L size (m .refusal) (m .head) (lent (take n (branchRowsOf (u ++ rest))) rt′ pt′ nt′ slab)
       fresh-back head size l =
           record {
             refusal = l .refusal ∙ refusal-front head size;
@@ -132,10 +132,10 @@ module _ (head : Head) (l : Lent) (many : 4096 < length (l .branches)) where
   abbrev S : Store
   S = lentStore head l
 
-  over : (size lr lp ls : ℕ) → sizesAllowed size (length (l .branches)) lr lp ls ≡ false
+  over : (size lr lp ln ls : ℕ) → sizesAllowed size (length (l .branches)) lr lp ln ls ≡ false
   unfolding sizesAllowed
-  over size lr lp ls =
-      case (sizesAllowed size (length (l .branches)) lr lp ls)
+  over size lr lp ln ls =
+      case (sizesAllowed size (length (l .branches)) lr lp ln ls)
       (λ e.
       let rows-allowed : between 1 4096 (length (l .branches)) ≡ true = and→ _ _ (and→ (between 1 65536 size) _ e .1) .0 in
       absurd (omega (arith, many, leb-true (length (l .branches)) 4096 (and→ (leb 1 (length (l .branches))) _ rows-allowed .1))))
@@ -144,9 +144,9 @@ module _ (head : Head) (l : Lent) (many : 4096 < length (l .branches)) where
   many-batch : (input : List ℕ) (space : ℕ) → lentBatch head l input space ≡ ended S 1
   unfolding lentBatch batch tableCheck inRange
   many-batch input space =
-      let e : sizesAllowed (head .size) (length (l .branches)) (length (recordRowsOf (l .records))) (length (l .places)) (length (l .slab)) ≡ false =
-      over (head .size) (length (recordRowsOf (l .records))) (length (l .places)) (length (l .slab)) in
-      case (wholeRecords l) (λ w. rw (w, e)) (λ w. rw w)
+      let e : sizesAllowed (head .size) (length (l .branches)) (length (recordRowsOf (l .records))) (length (l .places)) (length (nameRowsOf (l .names))) (length (l .slab)) ≡ false =
+      over (head .size) (length (recordRowsOf (l .records))) (length (l .places)) (length (nameRowsOf (l .names))) (length (l .slab)) in
+      case (wholeOthers l) (λ w. rw (w, e)) (λ w. rw w)
 
   pub many-batch-leaves : (input area : List ℕ) → BatchLeaves (lentBatch head l input (length area)) l area (record { stop = 1; answered = 0; taken = 0; sent = 0 }) head l area
   many-batch-leaves input area =
@@ -156,15 +156,15 @@ module _ (head : Head) (l : Lent) (many : 4096 < length (l .branches)) where
   many-refusal : (size : ℕ) → 1 ≡ lentRefusal head l size
   unfolding lentRefusal freshCheck
   many-refusal size =
-      let e : sizesAllowed size (length (l .branches)) (length (recordRowsOf (l .records))) (length (l .places)) (length (l .slab)) ≡ false =
-      over size (length (recordRowsOf (l .records))) (length (l .places)) (length (l .slab)) in
-      case (wholeRecords l) (λ w. rw (w, e)) (λ w. rw w)
+      let e : sizesAllowed size (length (l .branches)) (length (recordRowsOf (l .records))) (length (l .places)) (length (nameRowsOf (l .names))) (length (l .slab)) ≡ false =
+      over size (length (recordRowsOf (l .records))) (length (l .places)) (length (nameRowsOf (l .names))) (length (l .slab)) in
+      case (wholeOthers l) (λ w. rw (w, e)) (λ w. rw w)
 
   many-fresh : (size : ℕ) → lentFresh head l size ≡ S
   unfolding lentFresh
   many-fresh size =
-      case (wholeRecords l)
-      (λ w. rw (w, not-made S size (over size (length (recordRowsOf (l .records))) (length (l .places)) (length (l .slab)))))
+      case (wholeOthers l)
+      (λ w. rw (w, not-made S size (over size (length (recordRowsOf (l .records))) (length (l .places)) (length (nameRowsOf (l .names))) (length (l .slab)))))
       (λ w. rw w)
 
   pub many-fresh-leaves : (size : ℕ) → FreshLeaves head l size 1 head l

@@ -1,6 +1,7 @@
 -- A batch on a store that was just made, in one step.
-use mathlib.Core.Path.{_≡_, sym, ap, _∙_}
+use mathlib.Core.Path.{_≡_, sym, ap, ap₂, _∙_}
 use mathlib.Core.List.{List}
+use mathlib.Core.Bool.{_&&_}
 use Prim.Native.Nat.{ℕ, _%_}
 use lib.Dec.{eqb}
 use lib.ListN.{length}
@@ -10,50 +11,64 @@ use Rattle.model.specs.Soundness.{sizesAllowed}
 use Rattle.model.specs.Batch.{Run}
 use Rattle.model.specs.Fresh.{fresh, madeFresh}
 use Rattle.model.proofs.Base.{case}
-use Rattle.rows.specs.Rows.{recordWidth, recordRowsOf, recordTable, RecordsLaid}
-use Rattle.rows.proofs.Laws.{record-kind}
+use Rattle.rows.specs.Rows.{recordWidth, recordRowsOf, recordTable, RecordsLaid, nameWidth, nameRowsOf, nameTable, NamesLaid}
+use Rattle.rows.proofs.Laws.{record-kind, name-kind}
 use Rattle.rows.proofs.Relaid.{laid-rows, laid-over}
 use Rattle.lent.specs.declared.Report.{Report}
-use Rattle.lent.specs.Lent.{Lent, lent, lentStore, wholeRecords, lentBatch, lentFresh, BatchLeaves, FreshLeaves, freshStart, freshBatch}
+use Rattle.lent.specs.Lent.{Lent, lent, lentStore, wholeOthers, lentBatch, lentFresh, BatchLeaves, FreshLeaves, freshStart, freshBatch}
 
 -- a fresh store leaves the slab untouched
 made-slab : (s : Store) (size : ℕ) → madeFresh s size .slab ≡ s .slab
 unfolding madeFresh fresh
 made-slab s size =
-    case (sizesAllowed size (length (s .branchRows)) (length (s .recordRows)) (length (s .placeRows)) (length (s .slab))) (λ e. rw e) (λ e. rw e)
+    case (sizesAllowed size (length (s .branchRows)) (length (s .recordRows)) (length (s .placeRows)) (length (s .nameRows)) (length (s .slab))) (λ e. rw e) (λ e. rw e)
 
 start-slab : (size : ℕ) (l : Lent) → freshStart size l .slab ≡ l .slab
 unfolding lentFresh
-start-slab size l = case (wholeRecords l) (λ e. rw e (made-slab _ size)) (λ e. rw e)
+start-slab size l = case (wholeOthers l) (λ e. rw e (made-slab _ size)) (λ e. rw e)
 
 abbrev zeroHead : Head
-zeroHead = record { size = 0; branches = 0; records = 0; now = 0; floor = 0 }
+zeroHead = record { size = 0; branches = 0; records = 0; now = 0; floor = 0; names = 0 }
 
 -- l₁ is what making a fresh store left of l
-module _ (size : ℕ) (l : Lent) (r : ℕ) (h₁ : Head) (l₁ : Lent) (same : length (l₁ .records) ≡ length (l .records)) (made : FreshLeaves zeroHead l size r h₁ l₁) where
+module _ (size : ℕ) (l : Lent) (r : ℕ) (h₁ : Head) (l₁ : Lent) (same : length (l₁ .records) ≡ length (l .records)) (same-names : length (l₁ .names) ≡ length (l .names)) (made : FreshLeaves zeroHead l size r h₁ l₁) where
   abbrev s : Store
   s = freshStart size l
 
   laid : RecordsLaid (l .records) (s .recordRows) (l₁ .records)
   laid = record { table = ap (λ (x : Lent). x .records) (made .tables) }
 
+  laid-names : NamesLaid (l .names) (s .nameRows) (l₁ .names)
+  laid-names = record { table = ap (λ (x : Lent). x .names) (made .tables) }
+
   -- it is that store
   store-made : lentStore h₁ l₁ ≡ s
   store-made =
       let rows : recordRowsOf (l₁ .records) ≡ s .recordRows = laid-rows record-kind laid same in
-      λ i. record { head = made .made i; branchRows = made .tables i .branches; recordRows = rows i; placeRows = made .tables i .places; slab = made .tables i .slab }
+      let named : nameRowsOf (l₁ .names) ≡ s .nameRows = laid-rows name-kind laid-names same-names in
+      λ i.
+      record {
+        head = made .made i;
+        branchRows = made .tables i .branches;
+        recordRows = rows i;
+        placeRows = made .tables i .places;
+        nameRows = named i;
+        slab = made .tables i .slab;
+      }
 
   batch-made : (input : List ℕ) (space : ℕ) → lentBatch h₁ l₁ input space ≡ freshBatch size l input space
   unfolding lentBatch freshBatch
   batch-made input space =
-      let whole : wholeRecords l₁ ≡ wholeRecords l = ap (λ (n : ℕ). eqb (n % recordWidth) 0) same in rw (whole, store-made)
+      let whole : wholeOthers l₁ ≡ wholeOthers l = ap₂ (λ (n k : ℕ). eqb (n % recordWidth) 0 && eqb (k % nameWidth) 0) same same-names in
+      rw (whole, store-made)
 
   -- and what is laid over it is laid over l
   pub then-batch : (input area : List ℕ) (q : Report) (h₂ : Head) (l₂ : Lent) (area₂ : List ℕ) → BatchLeaves (lentBatch h₁ l₁ input (length area)) l₁ area q h₂ l₂ area₂
-      → BatchLeaves (freshBatch size l input (length area)) l area q h₂ (lent (freshBatch size l input (length area) .store .branchRows) (l₂ .records) (l₂ .places) (l₂ .slab)) area₂
+      → BatchLeaves (freshBatch size l input (length area)) l area q h₂ (lent (freshBatch size l input (length area) .store .branchRows) (l₂ .records) (l₂ .places) (l₂ .names) (l₂ .slab)) area₂
   then-batch input area q h₂ l₂ area₂ x =
       let run : Run = lentBatch h₁ l₁ input (length area) in
       let er : l₂ .records ≡ recordTable (run .store .recordRows) (l .records) = ap (λ (y : Lent). y .records) (x .tables) ∙ laid-over record-kind laid same (run .store .recordRows) in
+      let en : l₂ .names ≡ nameTable (run .store .nameRows) (l .names) = ap (λ (y : Lent). y .names) (x .tables) ∙ laid-over name-kind laid-names same-names (run .store .nameRows) in
       rw (sym (batch-made input (length area)))
       (record {
         stop = x .stop;
@@ -61,6 +76,6 @@ module _ (size : ℕ) (l : Lent) (r : ℕ) (h₁ : Head) (l₁ : Lent) (same : l
         taken = x .taken;
         sent = x .sent;
         head = x .head;
-        tables = λ i. record { branches = run .store .branchRows; records = er i; places = x .tables i .places; slab = x .tables i .slab };
+        tables = λ i. record { branches = run .store .branchRows; records = er i; places = x .tables i .places; names = en i; slab = x .tables i .slab };
         answers = x .answers;
       })

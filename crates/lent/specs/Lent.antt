@@ -1,7 +1,7 @@
 -- What is lent with the branch table as rows of three numbers: the store that it is, a batch on it, a fresh store over it.
 use mathlib.Core.Path.{_≡_}
 use mathlib.Core.List.{List}
-use mathlib.Core.Bool.{Bool, cond}
+use mathlib.Core.Bool.{Bool, cond, _&&_}
 use Prim.Native.Nat.{ℕ, _%_}
 use lib.Dec.{eqb}
 use lib.ListN.{length, replicate}
@@ -10,7 +10,7 @@ use Rattle.model.specs.declared.Branch.{Branch}
 use Rattle.model.specs.Store.{Store, zero-branch}
 use Rattle.model.specs.Batch.{Run, batch, ended, answeredCount, requestCount, answerCount, areaAfter}
 use Rattle.model.specs.Fresh.{freshCheck, madeFresh}
-use Rattle.rows.specs.Rows.{recordWidth, recordRowsOf, recordTable}
+use Rattle.rows.specs.Rows.{recordWidth, recordRowsOf, recordTable, nameWidth, nameRowsOf, nameTable}
 use Rattle.lent.specs.declared.Report.{Report}
 
 -- branch rows, the other tables and the slab, as they are lent
@@ -18,27 +18,36 @@ pub record Lent : Type 0 where
   pub branches : List Branch
   pub records : List ℕ
   pub places : List ℕ
+  pub names : List ℕ
   pub slab : List ℕ
 
-abbrev pub lent : List Branch → List ℕ → List ℕ → List ℕ → Lent
-lent branches rt pt slab = record { branches = branches; records = rt; places = pt; slab = slab }
+abbrev pub lent : List Branch → List ℕ → List ℕ → List ℕ → List ℕ → Lent
+lent branches rt pt nt slab = record { branches = branches; records = rt; places = pt; names = nt; slab = slab }
 
 -- with a head, the store that they are
 abbrev pub lentStore : Head → Lent → Store
 lentStore head l =
-    record { head = head; branchRows = l .branches; recordRows = recordRowsOf (l .records); placeRows = l .places; slab = l .slab }
+    record {
+      head = head;
+      branchRows = l .branches;
+      recordRows = recordRowsOf (l .records);
+      placeRows = l .places;
+      nameRows = nameRowsOf (l .names);
+      slab = l .slab;
+    }
 
 -- what is lent with a store laid over it: every row and every number
 abbrev pub laidOver : Store → Lent → Lent
-laidOver s l = lent (s .branchRows) (recordTable (s .recordRows) (l .records)) (s .placeRows) (s .slab)
+laidOver s l =
+    lent (s .branchRows) (recordTable (s .recordRows) (l .records)) (s .placeRows) (nameTable (s .nameRows) (l .names)) (s .slab)
 
--- the record table is a whole number of rows long
-abbrev pub wholeRecords : Lent → Bool
-wholeRecords l = eqb (length (l .records) % recordWidth) 0
+-- the record table and the name table are whole numbers of rows long
+abbrev pub wholeOthers : Lent → Bool
+wholeOthers l = eqb (length (l .records) % recordWidth) 0 && eqb (length (l .names) % nameWidth) 0
 
--- the model's batch on what is lent; a record table that is no whole number of rows is refusal 1
+-- the model's batch on what is lent; a record or name table that is no whole number of rows is refusal 1
 unfoldable pub lentBatch : Head → Lent → List ℕ → ℕ → Run
-lentBatch head l input space = cond (wholeRecords l) (batch (lentStore head l) input space) (ended (lentStore head l) 1)
+lentBatch head l input space = cond (wholeOthers l) (batch (lentStore head l) input space) (ended (lentStore head l) 1)
 
 -- what a run on what is lent reports and leaves: the stop number, the three counts, the head, all that is lent, and the answer area
 pub record BatchLeaves (run : Run) (l : Lent) (area : List ℕ) (r : Report) (head′ : Head) (l′ : Lent) (area′ : List ℕ) : Type 0 where
@@ -52,11 +61,11 @@ pub record BatchLeaves (run : Run) (l : Lent) (area : List ℕ) (r : Report) (he
 
 -- a fresh store of `size` pages over what is lent; a refusal changes nothing
 unfoldable pub lentFresh : Head → Lent → ℕ → Store
-lentFresh head l size = cond (wholeRecords l) (madeFresh (lentStore head l) size) (lentStore head l)
+lentFresh head l size = cond (wholeOthers l) (madeFresh (lentStore head l) size) (lentStore head l)
 
 -- its refusal: 1, or 0 where there is none
 unfoldable pub lentRefusal : Head → Lent → ℕ → ℕ
-lentRefusal head l size = cond (wholeRecords l) (freshCheck (lentStore head l) size) 1
+lentRefusal head l size = cond (wholeOthers l) (freshCheck (lentStore head l) size) 1
 
 -- what making a fresh store gives back and leaves: the refusal, the head and all that is lent
 pub record FreshLeaves (head : Head) (l : Lent) (size r : ℕ) (head′ : Head) (l′ : Lent) : Type 0 where
@@ -65,13 +74,13 @@ pub record FreshLeaves (head : Head) (l : Lent) (size r : ℕ) (head′ : Head) 
   pub tables : l′ ≡ laidOver (lentFresh head l size) l
 
 -- 16 branch rows of zeros, with tables and slab that are lent
-abbrev pub zeroRows : List ℕ → List ℕ → List ℕ → Lent
+abbrev pub zeroRows : List ℕ → List ℕ → List ℕ → List ℕ → Lent
 zeroRows = lent (replicate 16 zero-branch)
 
 -- made a fresh store of `size` pages, with a head of zeros
 abbrev pub freshStart : ℕ → Lent → Store
-freshStart size l = lentFresh (record { size = 0; branches = 0; records = 0; now = 0; floor = 0 }) l size
+freshStart size l = lentFresh (record { size = 0; branches = 0; records = 0; now = 0; floor = 0; names = 0 }) l size
 
--- the model's batch on that store; a record table that is no whole number of rows is refusal 1
+-- the model's batch on that store; a record or name table that is no whole number of rows is refusal 1
 unfoldable pub freshBatch : ℕ → Lent → List ℕ → ℕ → Run
-freshBatch size l input space = cond (wholeRecords l) (batch (freshStart size l) input space) (ended (freshStart size l) 1)
+freshBatch size l input space = cond (wholeOthers l) (batch (freshStart size l) input space) (ended (freshStart size l) 1)

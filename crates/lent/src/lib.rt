@@ -76,15 +76,16 @@ pub fn batch_rows(
     table: &mut [u32],
     rt: &mut [u32],
     pt: &mut [u32],
+    nt: &mut [u32],
     slab: &mut [u8],
     input: &[u8],
     answers: &mut [u8],
 ) -> Ended
     requires { ⌜ BranchesIn count (now table) ⌝ }
-    ensures { λ r. ⌜ (drop (count * branchWidth) (now (table .exit)) ≡ drop (count * branchWidth) (now (table .entry))) × BatchLeaves (lentBatch head (lent (take count (branchRowsOf (now (table .entry)))) (now (rt .entry)) (now (pt .entry)) (now (slab .entry))) (now (input .entry)) (length (now (answers .entry)))) (lent (take count (branchRowsOf (now (table .entry)))) (now (rt .entry)) (now (pt .entry)) (now (slab .entry))) (now (answers .entry)) (r .report) (r .head) (lent (take count (branchRowsOf (now (table .exit)))) (now (rt .exit)) (now (pt .exit)) (now (slab .exit))) (now (answers .exit)) ⌝ }
+    ensures { λ r. ⌜ (drop (count * branchWidth) (now (table .exit)) ≡ drop (count * branchWidth) (now (table .entry))) × BatchLeaves (lentBatch head (lent (take count (branchRowsOf (now (table .entry)))) (now (rt .entry)) (now (pt .entry)) (now (nt .entry)) (now (slab .entry))) (now (input .entry)) (length (now (answers .entry)))) (lent (take count (branchRowsOf (now (table .entry)))) (now (rt .entry)) (now (pt .entry)) (now (nt .entry)) (now (slab .entry))) (now (answers .entry)) (r .report) (r .head) (lent (take count (branchRowsOf (now (table .exit)))) (now (rt .exit)) (now (pt .exit)) (now (nt .exit)) (now (slab .exit))) (now (answers .exit)) ⌝ }
 {
     let end = count * rows::BRANCH_WIDTH;
-    let done = batch::batch(head, &mut table[..end], rt, pt, slab, input, answers);
+    let done = batch::batch(head, &mut table[..end], rt, pt, nt, slab, input, answers);
     let after = done.head;
     Ended {
         head: after,
@@ -105,13 +106,14 @@ pub fn fresh_rows(
     table: &mut [u32],
     rt: &mut [u32],
     pt: &mut [u32],
+    nt: &mut [u32],
     slab: &[u8],
 ) -> Made
     requires { ⌜ BranchesIn count (now table) ⌝ }
-    ensures { λ r. ⌜ (drop (count * branchWidth) (now (table .exit)) ≡ drop (count * branchWidth) (now (table .entry))) × FreshLeaves head (lent (take count (branchRowsOf (now (table .entry)))) (now (rt .entry)) (now (pt .entry)) (now (slab .entry))) size (r .refusal) (r .head) (lent (take count (branchRowsOf (now (table .exit)))) (now (rt .exit)) (now (pt .exit)) (now (slab .entry))) ⌝ }
+    ensures { λ r. ⌜ (drop (count * branchWidth) (now (table .exit)) ≡ drop (count * branchWidth) (now (table .entry))) × FreshLeaves head (lent (take count (branchRowsOf (now (table .entry)))) (now (rt .entry)) (now (pt .entry)) (now (nt .entry)) (now (slab .entry))) size (r .refusal) (r .head) (lent (take count (branchRowsOf (now (table .exit)))) (now (rt .exit)) (now (pt .exit)) (now (nt .exit)) (now (slab .entry))) ⌝ }
 {
     let end = count * rows::BRANCH_WIDTH;
-    fresh::make(head, size, &mut table[..end], rt, pt, slab)
+    fresh::make(head, size, &mut table[..end], rt, pt, nt, slab)
 }
 
 // A batch on what is lent, whatever it holds; the head is the caller's, and is brought up to date.
@@ -120,11 +122,12 @@ pub fn run_batch(
     branches: &mut [Branch],
     rt: &mut [u32],
     pt: &mut [u32],
+    nt: &mut [u32],
     slab: &mut [u8],
     input: &[u8],
     answers: &mut [u8],
 ) -> Report
-    ensures { λ r. ⌜ BatchLeaves (lentBatch (now (head .entry)) (lent (now (branches .entry)) (now (rt .entry)) (now (pt .entry)) (now (slab .entry))) (now (input .entry)) (length (now (answers .entry)))) (lent (now (branches .entry)) (now (rt .entry)) (now (pt .entry)) (now (slab .entry))) (now (answers .entry)) r (now (head .exit)) (lent (now (branches .exit)) (now (rt .exit)) (now (pt .exit)) (now (slab .exit))) (now (answers .exit)) ⌝ }
+    ensures { λ r. ⌜ BatchLeaves (lentBatch (now (head .entry)) (lent (now (branches .entry)) (now (rt .entry)) (now (pt .entry)) (now (nt .entry)) (now (slab .entry))) (now (input .entry)) (length (now (answers .entry)))) (lent (now (branches .entry)) (now (rt .entry)) (now (pt .entry)) (now (nt .entry)) (now (slab .entry))) (now (answers .entry)) r (now (head .exit)) (lent (now (branches .exit)) (now (rt .exit)) (now (pt .exit)) (now (nt .exit)) (now (slab .exit))) (now (answers .exit)) ⌝ }
 {
     if MOST_ROWS < branches.len() {
         return Report {
@@ -142,6 +145,7 @@ pub fn run_batch(
         &mut table,
         rt,
         pt,
+        nt,
         slab,
         input,
         answers,
@@ -158,16 +162,17 @@ pub fn make_fresh(
     branches: &mut [Branch],
     rt: &mut [u32],
     pt: &mut [u32],
+    nt: &mut [u32],
     slab: &[u8],
 ) -> u32
-    ensures { λ r. ⌜ FreshLeaves (now (head .entry)) (lent (now (branches .entry)) (now (rt .entry)) (now (pt .entry)) (now (slab .entry))) size r (now (head .exit)) (lent (now (branches .exit)) (now (rt .exit)) (now (pt .exit)) (now (slab .entry))) ⌝ }
+    ensures { λ r. ⌜ FreshLeaves (now (head .entry)) (lent (now (branches .entry)) (now (rt .entry)) (now (pt .entry)) (now (nt .entry)) (now (slab .entry))) size r (now (head .exit)) (lent (now (branches .exit)) (now (rt .exit)) (now (pt .exit)) (now (nt .exit)) (now (slab .entry))) ⌝ }
 {
     if MOST_ROWS < branches.len() {
         return 1;
     }
     let mut table = [0u32; MOST_NUMBERS];
     load_rows(branches, &mut table);
-    let made = fresh_rows(*head, size, branches.len(), &mut table, rt, pt, slab);
+    let made = fresh_rows(*head, size, branches.len(), &mut table, rt, pt, nt, slab);
     store_rows(branches, &table);
     *head = made.head;
     made.refusal
@@ -178,11 +183,12 @@ pub fn fresh_batch(
     size: u32,
     rt: &mut [u32],
     pt: &mut [u32],
+    nt: &mut [u32],
     slab: &mut [u8],
     input: &[u8],
     answers: &mut [u8],
 ) -> Ended
-    ensures { λ r. ⌜ BatchLeaves (freshBatch size (zeroRows (now (rt .entry)) (now (pt .entry)) (now (slab .entry))) (now (input .entry)) (length (now (answers .entry)))) (zeroRows (now (rt .entry)) (now (pt .entry)) (now (slab .entry))) (now (answers .entry)) (r .report) (r .head) (lent (freshBatch size (zeroRows (now (rt .entry)) (now (pt .entry)) (now (slab .entry))) (now (input .entry)) (length (now (answers .entry))) .store .branchRows) (now (rt .exit)) (now (pt .exit)) (now (slab .exit))) (now (answers .exit)) ⌝ }
+    ensures { λ r. ⌜ BatchLeaves (freshBatch size (zeroRows (now (rt .entry)) (now (pt .entry)) (now (nt .entry)) (now (slab .entry))) (now (input .entry)) (length (now (answers .entry)))) (zeroRows (now (rt .entry)) (now (pt .entry)) (now (nt .entry)) (now (slab .entry))) (now (answers .entry)) (r .report) (r .head) (lent (freshBatch size (zeroRows (now (rt .entry)) (now (pt .entry)) (now (nt .entry)) (now (slab .entry))) (now (input .entry)) (length (now (answers .entry))) .store .branchRows) (now (rt .exit)) (now (pt .exit)) (now (nt .exit)) (now (slab .exit))) (now (answers .exit)) ⌝ }
 {
     let mut head = Head {
         size: 0,
@@ -190,6 +196,7 @@ pub fn fresh_batch(
         records: 0,
         now: 0,
         floor: 0,
+        names: 0,
     };
     let row = Branch {
         start: 0,
@@ -197,7 +204,7 @@ pub fn fresh_batch(
         cut: 0,
     };
     let mut branches = [row; 16];
-    make_fresh(&mut head, size, &mut branches, rt, pt, slab);
-    let report = run_batch(&mut head, &mut branches, rt, pt, slab, input, answers);
+    make_fresh(&mut head, size, &mut branches, rt, pt, nt, slab);
+    let report = run_batch(&mut head, &mut branches, rt, pt, nt, slab, input, answers);
     Ended { head, report }
 }

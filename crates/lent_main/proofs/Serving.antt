@@ -1,7 +1,7 @@
 -- The program's tables made a fresh store, and the batch on it.
-use mathlib.Core.Path.{_≡_, ap, _∙_}
+use mathlib.Core.Path.{_≡_, ap, ap₂, _∙_}
 use mathlib.Core.List.{List}
-use mathlib.Core.Bool.{true}
+use mathlib.Core.Bool.{true, _&&_}
 use Prim.Native.Nat.{ℕ, _*_, _%_, _/_, _≤_}
 use native.Mathlib.Omega.{arith}
 use lib.Dec.{eqb}
@@ -10,38 +10,43 @@ use Rattle.model.specs.declared.Branch.{Branch}
 use Rattle.model.specs.Store.{Store, zero-branch}
 use Rattle.model.specs.Soundness.{sizesAllowed}
 use Rattle.model.specs.Fresh.{programStore, madeFresh}
-use Rattle.rows.specs.Rows.{zeros, recordWidth, recordRowsOf}
-use Rattle.rows.proofs.Laws.{record-count, length-zeros}
+use Rattle.rows.specs.Rows.{zeros, recordWidth, recordRowsOf, nameWidth, nameRowsOf}
+use Rattle.rows.proofs.Laws.{record-count, name-count, length-zeros}
 use Rattle.lent.specs.declared.Ended.{Ended}
-use Rattle.lent.specs.Lent.{Lent, wholeRecords, lentFresh, zeroRows, freshStart, freshBatch, BatchLeaves}
+use Rattle.lent.specs.Lent.{Lent, wholeOthers, lentFresh, zeroRows, freshStart, freshBatch, BatchLeaves}
 use Rattle.lent_main.specs.Session.{runOf, Replies}
 
 -- what the program lends
 abbrev program : Lent
-program = zeroRows (zeros (128 * recordWidth)) (zeros 128) (zeros (128 * 256))
+program = zeroRows (zeros (128 * recordWidth)) (zeros 128) (zeros (32 * nameWidth)) (zeros (128 * 256))
 
-whole : wholeRecords program ≡ true
-whole = ap (λ (n : ℕ). eqb (n % recordWidth) 0) (length-zeros (128 * recordWidth))
+whole : wholeOthers program ≡ true
+whole = ap₂ (λ (n k : ℕ). eqb (n % recordWidth) 0 && eqb (k % nameWidth) 0) (length-zeros (128 * recordWidth)) (length-zeros (32 * nameWidth))
 
 rows : length (recordRowsOf (zeros (128 * recordWidth))) ≡ 128
 rows = record-count (zeros (128 * recordWidth)) ∙ ap (λ (n : ℕ). n / recordWidth) (length-zeros (128 * recordWidth))
 
-made : (s : Store) → length (s .branchRows) ≡ 16 → length (s .recordRows) ≡ 128 → length (s .placeRows) ≡ 128 → length (s .slab) ≡ 128 * 256 → madeFresh s 64 ≡ programStore (s .slab)
+named : length (nameRowsOf (zeros (32 * nameWidth))) ≡ 32
+named = name-count (zeros (32 * nameWidth)) ∙ ap (λ (n : ℕ). n / nameWidth) (length-zeros (32 * nameWidth))
+
+made : (s : Store) → length (s .branchRows) ≡ 16 → length (s .recordRows) ≡ 128 → length (s .placeRows) ≡ 128 → length (s .nameRows) ≡ 32 → length (s .slab) ≡ 128 * 256 → madeFresh s 64 ≡ programStore (s .slab)
 unfolding madeFresh sizesAllowed
-made s b r p l = rw (b, r, p, l)
+made s b r p n l = rw (b, r, p, n, l)
 
 started : freshStart 64 program ≡ programStore (zeros (128 * 256))
 unfolding lentFresh
-started = rw whole (made _ (length-replicate {A = Branch} 16 zero-branch) rows (length-zeros 128) (length-zeros (128 * 256)))
+started = rw whole (made _ (length-replicate {A = Branch} 16 zero-branch) rows (length-zeros 128) named (length-zeros (128 * 256)))
 
 batch-is : (input : List ℕ) (space : ℕ) → freshBatch 64 program input space ≡ runOf input space
 unfolding freshBatch
 batch-is input space = rw (whole, started)
 
--- what the batch leaves is the program's reply
-pub replies : {input area area′ : List ℕ} {l′ : Lent} {r : Ended} → BatchLeaves (freshBatch 64 program input (length area)) program area (r .report) (r .head) l′ area′ → Replies input area r area′
-replies {input} {area} {area′} {l′} {r} l =
-    let w = rw (batch-is input (length area)) at l in
+-- what the batch leaves on tables of zeros is the program's reply
+pub replies : {rt pt nt slab input area area′ : List ℕ} {l′ : Lent} {r : Ended} → rt ≡ zeros (128 * recordWidth) → pt ≡ zeros 128 → nt ≡ zeros (32 * nameWidth) → slab ≡ zeros (128 * 256)
+    → BatchLeaves (freshBatch 64 (zeroRows rt pt nt slab) input (length area)) (zeroRows rt pt nt slab) area (r .report) (r .head) l′ area′ → Replies input area r area′
+replies {rt} {pt} {nt} {slab} {input} {area} {area′} {l′} {r} er ep en es l =
+    let z : BatchLeaves (freshBatch 64 program input (length area)) program area (r .report) (r .head) l′ area′ = rw (er, ep, en, es) at l in
+    let w = rw (batch-is input (length area)) at z in
     record { stop = w .stop; answered = w .answered; taken = w .taken; sent = w .sent; head = w .head; answers = w .answers }
 
 -- the answers stand in the answer area

@@ -1,13 +1,15 @@
-// The worked session P1 to P10 as one batch on a fresh store, through the lent forms. Standard input holds its requests;
+// The worked session P1 to P10, and a named state behind it, as one batch on a fresh store, through the lent forms. Standard input holds the requests;
 // the answers go to standard output, then the report and the head, a line each.
 use lent::Ended;
 ghost use mathlib.Core.Path.{_≡_};
 ghost use Prim.Native.Nat.{_*_};
 ghost use lib.ListN.{length};
-ghost use Rattle.rows.specs.Rows.{zeros, recordWidth};
+ghost use Rattle.rows.specs.Rows.{zeros, recordWidth, nameWidth};
 ghost use Rattle.lent_main.specs.Session.{Replies};
 
 const RECORD_NUMBERS: usize = 128 * rows::RECORD_WIDTH;
+
+const NAME_NUMBERS: usize = 32 * rows::NAME_WIDTH;
 
 const SLAB_BYTES: usize = 128 * 256;
 
@@ -29,14 +31,29 @@ fn place_rows() -> [u32; 128]
     [0u32; 128]
 }
 
+fn name_rows() -> [u32; NAME_NUMBERS]
+    ensures { λ r. ⌜ r ≡ zeros (32 * nameWidth) ⌝ }
+{
+    [0u32; NAME_NUMBERS]
+}
+
 // The input as one batch on a fresh store of 64 pages, 16 branches, 128 records and 128 places.
 fn session(input: &[u8], answers: &mut [u8]) -> Ended
     ensures { λ r. ⌜ Replies (now (input .entry)) (now (answers .entry)) r (now (answers .exit)) ⌝ }
 {
     let mut records = record_rows();
     let mut places = place_rows();
+    let mut names = name_rows();
     let mut slab = page_slab();
-    lent::fresh_batch(64, &mut records, &mut places, &mut slab, input, answers)
+    lent::fresh_batch(
+        64,
+        &mut records,
+        &mut places,
+        &mut names,
+        &mut slab,
+        input,
+        answers,
+    )
 }
 
 fn line(name: &[u8], n: u64) {
@@ -62,4 +79,5 @@ fn main() {
     line(b"records ", head.records as u64);
     line(b"now ", head.now as u64);
     line(b"floor ", head.floor as u64);
+    line(b"names ", head.names as u64);
 }

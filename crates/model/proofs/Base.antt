@@ -5,9 +5,9 @@ use mathlib.Core.Logic.{_⊎_, inl, inr}
 use mathlib.Core.List.{List, [], _∷_, _++_, map, reverse, reverseAux}
 use mathlib.Core.Bool.{Bool, true, false, cond, _&&_, _||_, and-eq-true-iff, false≢true}
 use native.Mathlib.Omega.{arith}
-use lib.Dec.{eqb}
+use lib.Dec.{leb, eqb}
 use lib.ListN.{length, getD, set, take, drop, replicate, take-append-drop}
-use borrow.Author.Tests.{leb-true, eqb-true, eqb-false, le-leb}
+use borrow.Author.Tests.{leb-true, eqb-true, eqb-false, le-leb, eq-eqb}
 use Rattle.model.specs.Store.{keep, any, _∈_}
 use Rattle.model.specs.Lookup.{anyUpTo, isReadable, someReadable}
 
@@ -114,6 +114,14 @@ module _ {A : Type 0} where
       let ih : (x : A) × (x ∈ ys) × (k x ≡ true) = mem-any k ys (rw d at e) in
       (ih .0, inr (ih .1), ih .2))
 
+  pub any-none : (k : A → Bool) (xs : List A) → ((x : A) → x ∈ xs → k x ≡ false) → any k xs ≡ false
+  unfolding any
+  any-none k [] h = refl
+  any-none k (x ∷ xs) h = rw (h x (inl refl)) (any-none k xs (λ y m. h y (inr m)))
+
+  pub none-any : (k : A → Bool) (xs : List A) → any k xs ≡ false → (x : A) → x ∈ xs → k x ≡ false
+  none-any k xs e x m = case (k x) (λ d. absurd-test (any-mem k x xs m d) e) (λ d. d)
+
   pub any-append : (k : A → Bool) (xs ys : List A) → any k (xs ++ ys) ≡ (any k xs || any k ys)
   unfolding any
   any-append k [] ys = refl
@@ -132,6 +140,9 @@ module _ {A : Type 0} where
   mem-append x [] ys m = inr m
   mem-append x (y ∷ xs) ys (inl e) = inl (inl e)
   mem-append x (y ∷ xs) ys (inr m) = elim (mem-append x xs ys m) [ inl k ↦ inl (inr k) | inr k ↦ inr k ]
+
+  pub mem-snoc : (x : A) (xs : List A) (y : A) → x ∈ (xs ++ (y ∷ [])) → (x ∈ xs) ⊎ (x ≡ y)
+  mem-snoc x xs y m = elim (mem-append x xs (y ∷ []) m) [ inl k ↦ inl k | inr k ↦ elim k [ inl e ↦ inr e | inr z ↦ absurd z ] ]
 
   pub mem-take : (n : ℕ) (x : A) (xs : List A) → x ∈ take n xs → x ∈ xs
   mem-take n x xs m = rw (take-append-drop n xs) at (mem-left x (take n xs) (drop n xs) m)
@@ -234,15 +245,31 @@ someReadable-same ρ hi f g h =
         let r : (t : ℕ) × (ρ t ≡ true) × (t ≤ hi) × (f t ≡ true) = someReadable-elim ρ hi f e in
         someReadable-intro ρ hi g (r .0) (r .1) (r .2) (sym (h (r .0) (r .1) (r .2)) ∙ r .3)
 
--- readable are the moments from the floor on
-pub readable-above : (floor t : ℕ) → floor ≤ t → isReadable floor t ≡ true
+-- readable are the moments from the floor on, and the named ones
+pub readable-above : (floor : ℕ) (named : List ℕ) (t : ℕ) → floor ≤ t → isReadable floor named t ≡ true
 unfolding isReadable
-readable-above floor t h = le-leb floor t h
+readable-above floor named t h = rw (le-leb floor t h)
 
-pub readable→ : (floor t : ℕ) → isReadable floor t ≡ true → floor ≤ t
+pub readable-named : (floor : ℕ) (named : List ℕ) (t : ℕ) → t ∈ named → isReadable floor named t ≡ true
 unfolding isReadable
-readable→ floor t e = leb-true floor t e
+readable-named floor named t m = →or₂ (leb floor t) (any-mem (λ x. eqb x t) t named m (eq-eqb t t refl))
 
--- what a higher floor leaves readable was readable
-pub readable-less : (floor floor′ t : ℕ) → floor ≤ floor′ → isReadable floor′ t ≡ true → isReadable floor t ≡ true
-readable-less floor floor′ t l e = readable-above floor t (omega (arith, readable→ floor′ t e))
+pub readable→ : (floor : ℕ) (named : List ℕ) (t : ℕ) → isReadable floor named t ≡ true → (floor ≤ t) ⊎ (t ∈ named)
+unfolding isReadable
+readable→ floor named t e =
+    elim (or→ (leb floor t) (any (λ x. eqb x t) named) e) [
+      | inl p ↦ inl (leb-true floor t p)
+      | inr p ↦
+          let r : (x : ℕ) × (x ∈ named) × (eqb x t ≡ true) = mem-any (λ x. eqb x t) named p in
+          inr (rw (eqb-true (r .0) t (r .2)) at (r .1))
+    ]
+
+pub not-readable : (floor : ℕ) (named : List ℕ) (t : ℕ) → t < floor → (t ∈ named → ⊥) → isReadable floor named t ≡ false
+not-readable floor named t h f =
+    case (isReadable floor named t) (λ e. elim (readable→ floor named t e) [ inl l ↦ absurd (omega arith) | inr m ↦ absurd (f m) ]) (λ e. e)
+
+-- what a higher floor and names of readable moments leave readable was readable
+pub readable-less : (floor floor′ : ℕ) (named named′ : List ℕ) (t : ℕ) → floor ≤ floor′ → ((x : ℕ) → x ∈ named′ → isReadable floor named x ≡ true)
+    → isReadable floor′ named′ t ≡ true → isReadable floor named t ≡ true
+readable-less floor floor′ named named′ t l f e =
+    elim (readable→ floor′ named′ t e) [ inl h ↦ readable-above floor named t (omega arith) | inr m ↦ f t m ]

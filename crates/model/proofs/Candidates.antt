@@ -1,20 +1,21 @@
--- Readable moments that decide a reclaim: the floor, and each row's start above it. So a program need not try them all.
+-- Readable moments that decide a reclaim: the floor, each row's start above it, and the named ones. So a program need not try them all.
 use Prim.Native.Nat.{ℕ, _≤_, _<_}
 use mathlib.Core.Path.{_≡_, refl, sym, _∙_}
 use mathlib.Core.Logic.{_⊎_, inl, inr}
 use mathlib.Core.List.{List, [], _∷_}
 use mathlib.Core.Option.{some, none}
-use mathlib.Core.Bool.{true, false, _||_, false≢true}
+use mathlib.Core.Bool.{Bool, true, false, _||_, false≢true}
 use native.Mathlib.Omega.{arith}
 use lib.Dec.{leb, ltb}
 use borrow.Author.Tests.{ltb-true, ltb-false, leb-true, leb-false, eq-eqb, lt-ltb}
 use Rattle.model.specs.declared.Branch.{Branch}
 use Rattle.model.specs.declared.Record.{Record}
-use Rattle.model.specs.Store.{Store, newest, records, keep, any, _∈_}
-use Rattle.model.specs.Lookup.{holds, within, orElse, latest, lookup, isAt, isReadable, isGiven, inAncestry, isAncestor}
-use Rattle.model.proofs.Base.{case, or→, same-test, absurd-test, keep-mem, mem-keep, any-mem, mem-any, mem-map, map-mem, someReadable-intro, someReadable-elim, readable-above, readable→}
+use Rattle.model.specs.declared.Name.{Name}
+use Rattle.model.specs.Store.{Store, newest, records, names, moments, keep, any, _∈_}
+use Rattle.model.specs.Lookup.{holds, within, orElse, latest, lookup, isAt, readableFrom, someReadable, isGiven, inAncestry, isAncestor}
+use Rattle.model.proofs.Base.{case, or→, same-test, absurd-test, keep-mem, mem-keep, any-mem, mem-any, mem-left, mem-right, mem-append, mem-map, map-mem, someReadable-intro, someReadable-elim, readable-above, readable-named, readable→}
 use Rattle.model.proofs.Latest.{caseOption, Within, within→, →within, not-within, latest-top}
-use Rattle.model.specs.ByNumber.{Asc, Link, Chain, SoundRows, find, Fits, Sound, candidates}
+use Rattle.model.specs.ByNumber.{Asc, Link, Chain, SoundRows, find, Fits, Sound, candidates, deciding}
 use Rattle.model.proofs.Ancestry.{Holds, holds→, →holds, not-holds, held-below, find-hold, find-skip, inAncestry-hold, inAncestry-skip}
 use Rattle.model.proofs.AncestryKept.{Below, earlier-below}
 use Rattle.model.proofs.Moves.{covered}
@@ -172,26 +173,55 @@ rows-started floor now m x bs h l (inr i) =
     (omega arith, omega arith)
 
 module _ (s : Store) (m : ℕ) (h : Sound s) (l : s .head .floor ≤ m) (u : m ≤ s .head .now) where
-  -- a branch is on the ancestry from a readable moment exactly if it is from a candidate
-  pub ancestor-candidates : (b : Branch) → isAncestor s m b ≡ any (λ t. inAncestry (newest s) t (b .start)) (candidates m (newest s))
+  abbrev named : List ℕ
+  named = moments (names s)
+
+  -- what decides is readable
+  deciding-readable : (t : ℕ) → t ∈ deciding named m (newest s) → (readableFrom s m t ≡ true) × (t ≤ s .head .now)
+  deciding-readable t i =
+      elim (mem-append t (candidates m (newest s)) named i) [
+        | inl k ↦
+            let b : (m ≤ t) × (t ≤ s .head .now) = rows-started _ _ m t (newest s) (h .rows) u k in
+            (readable-above m named t (b .0), b .1)
+        | inr k ↦
+            let r : (n : Name) × (n ∈ names s) × (t ≡ n .moment) = map-mem (λ n. n .moment) t (names s) k in
+            (readable-named m named t k, omega (arith, r .2, h .names .fit (r .0) (r .1) .below))
+      ]
+
+  -- what a readable moment passes, one that decides passes: its candidate, or itself where it is named
+  decided : (f : ℕ → Bool) (t : ℕ) → readableFrom s m t ≡ true → t ≤ s .head .now → f t ≡ true → ((k : Candidate m t (newest s)) → f (k .moment) ≡ true)
+      → any f (deciding named m (newest s)) ≡ true
+  decided f t i j e g =
+      elim (readable→ m named t i) [
+        | inl a ↦
+            let k : Candidate m t (newest s) = rows-candidate _ _ m t (newest s) (h .rows) (h .sizes .now-high) l a j in
+            any-mem f (k .moment) (deciding named m (newest s)) (mem-left (k .moment) (candidates m (newest s)) named (listed-mem m t (newest s) k)) (g k)
+        | inr a ↦ any-mem f t (deciding named m (newest s)) (mem-right t (candidates m (newest s)) named a) e
+      ]
+
+  -- and the other way round
+  decides : (f : ℕ → Bool) → any f (deciding named m (newest s)) ≡ true → someReadable (readableFrom s m) (s .head .now) f ≡ true
+  decides f e =
+      let g : (t : ℕ) × (t ∈ deciding named m (newest s)) × (f t ≡ true) = mem-any f (deciding named m (newest s)) e in
+      let i : (readableFrom s m (g .0) ≡ true) × (g .0 ≤ s .head .now) = deciding-readable (g .0) (g .1) in
+      someReadable-intro (readableFrom s m) (s .head .now) f (g .0) (i .0) (i .1) (g .2)
+
+  -- a branch is on the ancestry from a readable moment exactly if it is from one that decides
+  pub ancestor-deciding : (b : Branch) → isAncestor s m b ≡ any (λ t. inAncestry (newest s) t (b .start)) (deciding named m (newest s))
   unfolding isAncestor
-  ancestor-candidates b =
+  ancestor-deciding b =
       same-test _ _
       (λ e.
-      let g : (t : ℕ) × (isReadable m t ≡ true) × (t ≤ s .head .now) × (inAncestry (newest s) t (b .start) ≡ true) = someReadable-elim (isReadable m) (s .head .now) _ e in
-      let k : Candidate m (g .0) (newest s) = rows-candidate _ _ m (g .0) (newest s) (h .rows) (h .sizes .now-high) l (readable→ m (g .0) (g .1)) (g .2) in
-      any-mem (λ t. inAncestry (newest s) t (b .start)) (k .moment) (candidates m (newest s)) (listed-mem m (g .0) (newest s) k)
-      (sym (k .ancestries (b .start)) ∙ g .3))
-      (λ e.
-      let g : (t : ℕ) × (t ∈ candidates m (newest s)) × (inAncestry (newest s) t (b .start) ≡ true) = mem-any _ (candidates m (newest s)) e in
-      let i : (m ≤ g .0) × (g .0 ≤ s .head .now) = rows-started _ _ m (g .0) (newest s) (h .rows) u (g .1) in
-      someReadable-intro (isReadable m) (s .head .now) (λ t. inAncestry (newest s) t (b .start)) (g .0) (readable-above m (g .0) (i .0)) (i .1) (g .2))
+      let g : (t : ℕ) × (readableFrom s m t ≡ true) × (t ≤ s .head .now) × (inAncestry (newest s) t (b .start) ≡ true) =
+      someReadable-elim (readableFrom s m) (s .head .now) _ e in
+      decided (λ t. inAncestry (newest s) t (b .start)) (g .0) (g .1) (g .2) (g .3) (λ k. sym (k .ancestries (b .start)) ∙ g .3))
+      (decides (λ t. inAncestry (newest s) t (b .start)))
 
-  -- a counted record is given exactly if it is not older than the new floor, or a candidate gives it
-  pub given-candidates : (r : Record) → r ∈ records s
-      → isGiven s m r ≡ (leb m (r .moment) || any (λ t. isAt (r .moment) (lookup s (r .address) t)) (candidates m (newest s)))
+  -- a counted record is given exactly if it is not older than the new floor, or a moment that decides gives it
+  pub given-deciding : (r : Record) → r ∈ records s
+      → isGiven s m r ≡ (leb m (r .moment) || any (λ t. isAt (r .moment) (lookup s (r .address) t)) (deciding named m (newest s)))
   unfolding isGiven lookup
-  given-candidates r c =
+  given-deciding r c =
       same-test _ _
       (λ e.
       case (leb m (r .moment))
@@ -199,19 +229,15 @@ module _ (s : Store) (m : ℕ) (h : Sound s) (l : s .head .floor ≤ m) (u : m �
       (λ d.
       let o : r .moment < m = leb-false m (r .moment) d in
       let g : Given s m r = given→ s m h l u r c e in
-      let k : Candidate m (g .moment) (newest s) = rows-candidate _ _ m (g .moment) (newest s) (h .rows) (h .sizes .now-high) l (readable→ m (g .moment) (g .low)) (g .high) in
-      let f : lookup s (r .address) (k .moment) ≡ some r = k .finds (records s) (r .address) r o (g .found) in
+      let hit : (t : ℕ) → lookup s (r .address) t ≡ some r → isAt (r .moment) (lookup s (r .address) t) ≡ true = λ t f. rw f (eq-eqb (r .moment) (r .moment) refl) in
       rw d
-      (any-mem (λ t. isAt (r .moment) (lookup s (r .address) t)) (k .moment) (candidates m (newest s)) (listed-mem m (g .moment) (newest s) k)
-      (rw f (eq-eqb (r .moment) (r .moment) refl)))))
+      (decided (λ t. isAt (r .moment) (lookup s (r .address) t)) (g .moment) (g .low) (g .high) (hit (g .moment) (g .found))
+      (λ k. hit (k .moment) (k .finds (records s) (r .address) r o (g .found))))))
       (λ e.
-      elim (or→ (leb m (r .moment)) (any (λ t. isAt (r .moment) (lookup s (r .address) t)) (candidates m (newest s))) e) [
+      elim (or→ (leb m (r .moment)) (any (λ t. isAt (r .moment) (lookup s (r .address) t)) (deciding named m (newest s))) e) [
         | inl d ↦
             let f : Fits (s .head .size) (s .head .now) (newest s) r = h .fits r c in
-            →given s m h l u (r .address) (r .moment) r (readable-above m (r .moment) (leb-true m (r .moment) d)) (f .moment)
+            →given s m h l u (r .address) (r .moment) r (readable-above m named (r .moment) (leb-true m (r .moment) d)) (f .moment)
             (find-own (records s) (newest s) r (h .ascends) c (f .held))
-        | inr d ↦
-            let g : (t : ℕ) × (t ∈ candidates m (newest s)) × (isAt (r .moment) (lookup s (r .address) t) ≡ true) = mem-any _ (candidates m (newest s)) d in
-            let i : (m ≤ g .0) × (g .0 ≤ s .head .now) = rows-started _ _ m (g .0) (newest s) (h .rows) u (g .1) in
-            someReadable-intro (isReadable m) (s .head .now) (λ t. isAt (r .moment) (lookup s (r .address) t)) (g .0) (readable-above m (g .0) (i .0)) (i .1) (g .2)
+        | inr d ↦ decides (λ t. isAt (r .moment) (lookup s (r .address) t)) d
       ])

@@ -10,11 +10,12 @@ use lib.ListN.{length, getD}
 use borrow.Author.Tests.{ltb-true, leb-true, eqb-true}
 use Rattle.model.specs.declared.Branch.{Branch}
 use Rattle.model.specs.declared.Record.{Record}
-use Rattle.model.specs.Store.{Store, newest, records, any, open-end, _∈_}
+use Rattle.model.specs.Store.{Store, newest, records, names, any, open-end, _∈_}
 use Rattle.model.specs.Lookup.{holds}
-use Rattle.model.specs.Soundness.{sizesAllowed, between, inRange, chained, openRow, branchesSound, precedes, ascending, placed, used, recordsSound, tableCheck}
+use Rattle.model.specs.Soundness.{sizesAllowed, lentAllowed, between, inRange, chained, openRow, branchesSound, namesSound, rowsSound, precedes, ascending, placed, used, recordsSound, tableCheck}
 use Rattle.model.proofs.Base.{case, and→, or→}
 use Rattle.model.proofs.Latest.{precedes-trans}
+use Rattle.model.proofs.Names.{names→}
 use Rattle.model.specs.ByNumber.{Asc, Chain, SoundRows, Named, Allowed, Sizes, Fits, Sound}
 
 pub chained→ : (floor : ℕ) (bs : List Branch) → chained floor bs ≡ true → Chain floor bs
@@ -95,13 +96,14 @@ between→ lo hi n e =
     let p : (leb lo n ≡ true) × (leb n hi ≡ true) = and→ _ _ e in
     (leb-true _ _ (p .0), leb-true _ _ (p .1))
 
-pub sizes→ : (size nb nr np ns : ℕ) → sizesAllowed size nb nr np ns ≡ true → Allowed size nb nr np ns
+pub sizes→ : (size nb nr np nn ns : ℕ) → sizesAllowed size nb nr np nn ns ≡ true → Allowed size nb nr np nn ns
 unfolding sizesAllowed
-sizes→ size nb nr np ns e =
+sizes→ size nb nr np nn ns e =
     let a : (between 1 65536 size ≡ true) × (_ ≡ true) = and→ _ _ e in
     let b : (between 1 4096 nb ≡ true) × (_ ≡ true) = and→ _ _ (a .1) in
     let c : (between 1 65536 nr ≡ true) × (_ ≡ true) = and→ _ _ (b .1) in
-    let d : (between 1 65536 np ≡ true) × (eqb ns (256 * np) ≡ true) = and→ _ _ (c .1) in
+    let d : (between 1 65536 np ≡ true) × (_ ≡ true) = and→ _ _ (c .1) in
+    let f : (eqb nn 32 ≡ true) × (eqb ns (256 * np) ≡ true) = and→ _ _ (d .1) in
     record {
       size-low = between→ _ _ _ (a .0) .0;
       size-high = between→ _ _ _ (a .0) .1;
@@ -111,27 +113,30 @@ sizes→ size nb nr np ns e =
       records-high = between→ _ _ _ (c .0) .1;
       places-low = between→ _ _ _ (d .0) .0;
       places-high = between→ _ _ _ (d .0) .1;
-      slab = eqb-true _ _ (d .1);
+      name-rows = eqb-true _ _ (f .0);
+      slab = eqb-true _ _ (f .1);
     }
 
 pub inRange→ : (s : Store) → s .head .now ≤ open-end → inRange s ≡ true → Sizes s
 unfolding inRange
 inRange→ s n e =
-    let f : (sizesAllowed (s .head .size) (length (s .branchRows)) (length (s .recordRows)) (length (s .placeRows)) (length (s .slab)) ≡ true) × (_ ≡ true) = and→ _ _ e in
+    let f : (lentAllowed s (s .head .size) ≡ true) × (_ ≡ true) = and→ _ _ e in
     let g : (between 1 (length (s .branchRows)) (s .head .branches) ≡ true) × (_ ≡ true) = and→ _ _ (f .1) in
-    let h : (leb (s .head .records) (length (s .recordRows)) ≡ true) × (leb (s .head .floor) (s .head .now) ≡ true) = and→ _ _ (g .1) in
+    let h : (leb (s .head .records) (length (s .recordRows)) ≡ true) × (_ ≡ true) = and→ _ _ (g .1) in
+    let k : (leb (s .head .names) 32 ≡ true) × (leb (s .head .floor) (s .head .now) ≡ true) = and→ _ _ (h .1) in
     record {
-      allowed = sizes→ _ _ _ _ _ (f .0);
+      allowed = sizes→ _ _ _ _ _ _ (f .0);
       counted-low = between→ _ _ _ (g .0) .0;
       counted-high = between→ _ _ _ (g .0) .1;
       records-counted = leb-true _ _ (h .0);
-      floor-now = leb-true _ _ (h .1);
+      names-counted = leb-true _ _ (k .0);
+      floor-now = leb-true _ _ (k .1);
       now-high = n;
     }
 
 pub record Checks (s : Store) : Type 0 where
   pub ranges : inRange s ≡ true
-  pub rows : branchesSound s ≡ true
+  pub rows : rowsSound s ≡ true
   pub tables : recordsSound s ≡ true
 
 pub checks : (s : Store) → tableCheck s ≡ 0 → Checks s
@@ -139,7 +144,7 @@ unfolding tableCheck
 checks s e =
     case (inRange s)
     (λ a.
-    case (branchesSound s)
+    case (rowsSound s)
     (λ b.
     case (recordsSound s)
     (λ c. record { ranges = a; rows = b; tables = c })
@@ -149,14 +154,16 @@ checks s e =
 
 -- now is a number of 32 bits
 pub check-sound : (s : Store) → s .head .now ≤ open-end → tableCheck s ≡ 0 → Sound s
-unfolding branchesSound recordsSound
+unfolding rowsSound branchesSound recordsSound
 check-sound s n e =
     let k : Checks s = checks s e in
+    let c : ((openRow (s .head .now) (newest s) && chained (s .head .floor) (newest s)) ≡ true) × (namesSound (s .head .now) (newest s) (names s) ≡ true) = and→ _ _ (k .rows) in
     let a : (ascending (records s) ≡ true) × (_ ≡ true) = and→ _ _ (k .tables) in
     let b : (placed s 1 (records s) ≡ true) × (eqb (used (s .placeRows)) (s .head .records) ≡ true) = and→ _ _ (a .1) in
     record {
       sizes = inRange→ s n (k .ranges);
-      rows = open→ (s .head .floor) (s .head .now) (newest s) (k .rows);
+      rows = open→ (s .head .floor) (s .head .now) (newest s) (c .0);
+      names = names→ (s .head .now) (newest s) (names s) (c .1);
       ascends = ascending→ (records s) (a .0);
       fits = placed→fits s 1 (records s) (b .0);
       named = placed→named s 1 (records s) (b .0);

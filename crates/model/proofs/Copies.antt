@@ -1,25 +1,23 @@
 -- Change request Two: the slab in use through a list of calls, and copies of a store.
 use Prim.Native.Nat.{ℕ, zero, suc, _+_, _*_, _≤_, _<_}
-use mathlib.Core.Path.{_≡_, refl, sym, ap, subst, _∙_}
+use mathlib.Core.Path.{_≡_, refl, sym, ap, _∙_}
 use mathlib.Core.List.{List, [], _∷_, _++_, reverse}
-use mathlib.Core.Option.{some}
-use mathlib.Core.Bool.{Bool, true, false, false≢true}
 use native.Mathlib.Omega.{arith}
 use lib.ListN.{length, getD, take, replicate, length-append, length-take}
 use lib.Seq.{length-take-le}
 use Rattle.model.specs.declared.Head.{Head}
 use Rattle.model.specs.declared.Record.{Record}
-use Rattle.model.specs.Store.{Store, branches, newest, records, keep, pageAt, foundPage, pageOf, _∈_}
+use Rattle.model.specs.Store.{Store, branches, newest, records, names, keep, pageAt, _∈_}
 use Rattle.model.specs.Lookup.{lookup}
 use Rattle.model.specs.Soundness.{used, inUse}
 use Rattle.model.specs.Fresh.{freshCheck, fresh, madeFresh}
 use Rattle.model.specs.Batch.{Answered}
 use Rattle.model.specs.Reference.{Reference, empty}
-use Rattle.model.specs.Demand3.{Call, after, answered, fed, AllRight, lastReclaims, Exact}
-use Rattle.model.specs.ByNumber.{Named, Allowed, Sizes, Sound}
+use Rattle.model.specs.Demand3.{after, answered, fed, Exact}
+use Rattle.model.specs.ByNumber.{Named, Sizes, Sound}
 use Rattle.model.specs.Packed.{reach, slabInUse, StaysPacked, Copy, CopiesAgree}
 use Rattle.model.proofs.Base.{keep-append}
-use Rattle.model.proofs.Ancestry.{Found, find→}
+use Rattle.model.proofs.Ancestry.{find→}
 use Rattle.model.proofs.Places.{named-mem}
 use Rattle.model.proofs.Pages.{page-front}
 use Rattle.model.proofs.Invariant.{Inv}
@@ -68,10 +66,11 @@ module _ (s c : Store) (k : Copy s c) where
       let b : length (take (c .head .branches) (c .branchRows)) ≡ c .head .branches = ap length (k .branches) ∙ (length-branches s z ∙ ap (λ (x : Head). x .branches) (sym h)) in
       let r : length (take (c .head .records) (c .recordRows)) ≡ c .head .records = ap length (k .records) ∙ (length-records s z ∙ ap (λ (x : Head). x .records) (sym h)) in
       record {
-        allowed = sizes→ _ _ _ _ _ (k .allowed);
+        allowed = sizes→ _ _ _ _ _ _ (k .allowed);
         counted-low = rw h (z .counted-low);
         counted-high = counted-in (c .head .branches) (c .branchRows) b;
         records-counted = counted-in (c .head .records) (c .recordRows) r;
+        names-counted = rw h (z .names-counted);
         floor-now = rw h (z .floor-now);
         now-high = rw h (z .now-high);
       }
@@ -81,6 +80,7 @@ module _ (s c : Store) (k : Copy s c) where
       record {
         sizes = copy-sizes (h .sizes);
         rows = rw (rows-same, k .head) (h .rows);
+        names = rw (rows-same, k .names, k .head) (h .names);
         ascends = rw (k .records) (h .ascends);
         fits = λ r m. rw (rows-same, k .head) (h .fits r (rw (k .records) at m));
         named = rw (k .records, k .places) (named-longer (s .placeRows) (k .more) 1 (records s) (h .named));
@@ -105,13 +105,14 @@ module _ (s c : Store) (k : Copy s c) where
         sound = copy-sound (v .sound);
         now = rw (k .head) (v .now);
         floor = rw (k .head) (v .floor);
+        names = k .names ∙ v .names;
         held = rw (k .records) (v .held);
         reads =
             λ a t i j.
             rw (k .records, rows-same)
             (foundPage-same (s .slab) (c .slab) (lookup s a t)
             (λ q e. page-copy (v .sound) q (find→ (records s) a (newest s) (rows-falls _ _ (newest s) (v .sound .rows)) t q e .counted))
-            ∙ v .reads a t (rw (k .head) at i) (rw (k .head) at j));
+            ∙ v .reads a t (rw (k .names, k .head) at i) (rw (k .head) at j));
       }
 
   exact-copy : (p : Reference) → Sound s → Exact s p → Exact c p

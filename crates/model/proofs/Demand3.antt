@@ -126,7 +126,7 @@ ran-calls s p (c ∷ cs) v =
 module _ (size : ℕ) (s : Store) (p : Reference) (v : Inv s p) (same : s .head .size ≡ size) where
   reads : (a t : ℕ) → a < size → Readable p t → step s (readAt a t) .answer ≡ readAnswer t (p .snapshot t a)
   unfolding step
-  reads a t i r = read-answer s (p .snapshot) a t (v .reads) (omega arith) (rw (v .floor) (r .low)) (omega (arith, v .now, r .high))
+  reads a t i r = read-answer s (p .snapshot) a t (v .reads) (omega arith) (rw (v .names, v .floor) (r .low)) (omega (arith, v .now, r .high))
 
   sent : (a t space : ℕ) → a < size → Readable p t → length (answerBytes (readAnswer t (p .snapshot t a))) ≤ space
       → batch s (requestBytes (readAt a t)) space ≡ andThen (readAt a t) (readAnswer t (p .snapshot t a)) 7 (ended s 0)
@@ -145,6 +145,7 @@ module _ (size : ℕ) (s : Store) (p : Reference) (v : Inv s p) (same : s .head 
         volume = same;
         now = v .now;
         floor = v .floor;
+        names = v .names;
         held = v .held;
         once = →ascending (records s) (v .sound .ascends);
         reads = reads;

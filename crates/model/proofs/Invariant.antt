@@ -9,13 +9,14 @@ use lib.ListN.{length, getD}
 use borrow.Author.Tests.{leb-false, lt-ltb, le-leb, eq-eqb}
 use Rattle.model.specs.declared.Branch.{Branch}
 use Rattle.model.specs.declared.Record.{Record}
-use Rattle.model.specs.Store.{Store, branches, newest, records, open-end, foundPage, _∈_}
+use Rattle.model.specs.Store.{Store, branches, newest, records, names, open-end, foundPage, _∈_}
 use Rattle.model.specs.Lookup.{lookup, readable}
-use Rattle.model.specs.Soundness.{between, sizesAllowed, inRange, chained, openRow, branchesSound, ascending, placed, used, recordsSound, tableCheck}
+use Rattle.model.specs.Soundness.{between, sizesAllowed, inRange, chained, openRow, branchesSound, namesSound, rowsSound, ascending, placed, used, recordsSound, tableCheck}
 use Rattle.model.specs.Reference.{Snapshot, Reference}
 use Rattle.model.proofs.Base.{case, →and, →or₂}
 use Rattle.model.specs.Demand3.{key}
 use Rattle.model.specs.ByNumber.{Asc, Link, Chain, SoundRows, Named, Allowed, Sizes, Fits, Sound}
+use Rattle.model.proofs.Names.{→names}
 
 -- such a store passes the table checks
 pub →chained : (floor : ℕ) (bs : List Branch) → Chain floor bs → chained floor bs ≡ true
@@ -60,26 +61,28 @@ unfolding placed
 pub →between : (lo hi n : ℕ) → lo ≤ n → n ≤ hi → between lo hi n ≡ true
 →between lo hi n l h = →and (le-leb lo n l) (le-leb n hi h)
 
-pub →sizes : (size nb nr np ns : ℕ) → Allowed size nb nr np ns → sizesAllowed size nb nr np ns ≡ true
+pub →sizes : (size nb nr np nn ns : ℕ) → Allowed size nb nr np nn ns → sizesAllowed size nb nr np nn ns ≡ true
 unfolding sizesAllowed
-→sizes size nb nr np ns z =
+→sizes size nb nr np nn ns z =
     →and (→between 1 65536 size (z .size-low) (z .size-high))
     (→and (→between 1 4096 nb (z .branches-low) (z .branches-high))
     (→and (→between 1 65536 nr (z .records-low) (z .records-high))
-    (→and (→between 1 65536 np (z .places-low) (z .places-high)) (eq-eqb ns (256 * np) (z .slab)))))
+    (→and (→between 1 65536 np (z .places-low) (z .places-high)) (→and (eq-eqb nn 32 (z .name-rows)) (eq-eqb ns (256 * np) (z .slab))))))
 
 pub →inRange : (s : Store) → Sizes s → inRange s ≡ true
 unfolding inRange
 →inRange s z =
-    →and (→sizes _ _ _ _ _ (z .allowed))
+    →and (→sizes _ _ _ _ _ _ (z .allowed))
     (→and (→between 1 (length (s .branchRows)) (s .head .branches) (z .counted-low) (z .counted-high))
-    (→and (le-leb (s .head .records) (length (s .recordRows)) (z .records-counted)) (le-leb (s .head .floor) (s .head .now) (z .floor-now))))
+    (→and (le-leb (s .head .records) (length (s .recordRows)) (z .records-counted))
+    (→and (le-leb (s .head .names) 32 (z .names-counted)) (le-leb (s .head .floor) (s .head .now) (z .floor-now)))))
 
 pub sound-check : (s : Store) → Sound s → tableCheck s ≡ 0
-unfolding tableCheck branchesSound recordsSound
+unfolding tableCheck rowsSound branchesSound recordsSound
 sound-check s h =
     let a : inRange s ≡ true = →inRange s (h .sizes) in
-    let b : (openRow (s .head .now) (newest s) && chained (s .head .floor) (newest s)) ≡ true = →open _ _ (newest s) (h .rows) in
+    let b : ((openRow (s .head .now) (newest s) && chained (s .head .floor) (newest s)) && namesSound (s .head .now) (newest s) (names s)) ≡ true =
+    →and (→open _ _ (newest s) (h .rows)) (→names (s .head .now) (newest s) (names s) (h .names)) in
     let c : (ascending (records s) && (placed s 1 (records s) && eqb (used (s .placeRows)) (s .head .records))) ≡ true =
     →and (→ascending (records s) (h .ascends))
     (→and (→placed s 1 (records s) (h .fits) (h .named)) (eq-eqb (used (s .placeRows)) (s .head .records) (h .in-use))) in
@@ -92,12 +95,13 @@ pub record Inv (s : Store) (p : Reference) : Type 0 where
   pub sound : Sound s
   pub now : s .head .now ≡ p .now
   pub floor : s .head .floor ≡ p .floor
+  pub names : names s ≡ p .names
   pub held : map key (records s) ≡ p .held
   pub reads : Reads s (p .snapshot)
 
 -- the reference that a store stands for, with its snapshots
 abbrev pub referenceOf : Store → (ℕ → Snapshot) → Reference
-referenceOf s snaps = record { now = s .head .now; floor = s .head .floor; snapshot = snaps; held = map key (records s) }
+referenceOf s snaps = record { now = s .head .now; floor = s .head .floor; names = names s; snapshot = snaps; held = map key (records s) }
 
 pub canon : (s : Store) (p : Reference) → Inv s p → referenceOf s (p .snapshot) ≡ p
-canon s p v = λ i. record { now = v .now i; floor = v .floor i; snapshot = p .snapshot; held = v .held i }
+canon s p v = λ i. record { now = v .now i; floor = v .floor i; names = v .names i; snapshot = p .snapshot; held = v .held i }

@@ -3,18 +3,19 @@ use Prim.Native.Nat.{ℕ, zero, suc, _+_, _-_, _≤_, _<_}
 use mathlib.Core.Path.{_≡_, refl, _∙_}
 use mathlib.Core.Logic.{inl, inr}
 use mathlib.Core.List.{List, [], _∷_, _++_, map}
-use mathlib.Core.Bool.{Bool, cond}
+use mathlib.Core.Bool.{Bool, cond, not}
 use native.Mathlib.Omega.{arith}
 use lib.Dec.{leb, ltb}
 use lib.ListN.{length, getD, take, drop, set, replicate, length-set, length-append, length-drop, length-take, length-map}
 use borrow.Author.Tests.{ltb-true, ltb-false, leb-false}
 use Rattle.model.specs.declared.Branch.{Branch}
 use Rattle.model.specs.declared.Record.{Record}
+use Rattle.model.specs.declared.Name.{Name}
 use Rattle.model.specs.declared.Head.{Head}
-use Rattle.model.specs.Store.{Store, branches, records, keep, open-end, zero-branch, zero-record, _∈_}
+use Rattle.model.specs.Store.{Store, branches, records, names, isCalled, without, keep, open-end, zero-branch, zero-record, zero-name, _∈_}
 use Rattle.model.specs.Lookup.{readable, isGiven, isAncestor}
-use Rattle.model.specs.Wire.{Request, write, mark, revert, readAt, reclaim, parse, end, one, answerBytes}
-use Rattle.model.specs.Step.{Stepped, standing, firstFree, before, shifted, putIn, inserted, written, doWrite, doMark, branched, doRevert, doRead, renumbered, closedUp, reclaimed, doReclaim, step}
+use Rattle.model.specs.Wire.{Request, write, mark, revert, readAt, reclaim, give, withdraw, parse, end, one, answerBytes}
+use Rattle.model.specs.Step.{Stepped, standing, firstFree, before, shifted, putIn, inserted, written, doWrite, doMark, branched, doRevert, doRead, renumbered, closedUp, reclaimed, doReclaim, withNames, step}
 use Rattle.model.specs.Batch.{run, batch}
 use Rattle.model.specs.ByNumber.{Sizes, Sound, Whole, Names}
 use Rattle.model.proofs.Base.{case, mem-append, mem-take, mem-drop, mem-set, mem-replicate, mem-keep, map-mem, mem-getD, getD-mem, length-keep}
@@ -24,6 +25,7 @@ use Rattle.model.proofs.Pages.{length-withPage}
 use Rattle.model.proofs.Invariant.{sound-check}
 use Rattle.model.proofs.Writing.{put-mem, before-le, length-put, length-records}
 use Rattle.model.proofs.Reclaiming.{length-closed, length-branches}
+use Rattle.model.proofs.Naming.{fewer-names, Givable, give-cases, withdraw-cases}
 use Rattle.model.proofs.ByNumber.{names-of, names-below}
 use Rattle.model.proofs.Steps.{step-sound}
 use Rattle.model.proofs.Parsing.{Reads, parse-reads, caseParsed}
@@ -39,6 +41,7 @@ pub record SmallHead (h : Head) : Type 0 where
   pub records : Small (h .records)
   pub now : Small (h .now)
   pub floor : Small (h .floor)
+  pub names : Small (h .names)
 
 pub record SmallBranch (b : Branch) : Type 0 where
   pub start : Small (b .start)
@@ -49,6 +52,11 @@ pub record SmallRecord (r : Record) : Type 0 where
   pub address : Small (r .address)
   pub moment : Small (r .moment)
   pub place : Small (r .place)
+
+pub record SmallName (n : Name) : Type 0 where
+  pub high : Small (n .high)
+  pub low : Small (n .low)
+  pub moment : Small (n .moment)
 
 -- a statement of every element
 pub record All {A : Type 0} (P : A → Type 0) (xs : List A) : Type 0 where
@@ -84,17 +92,19 @@ pub record Narrow (s : Store) : Type 0 where
   pub branches : All SmallBranch (s .branchRows)
   pub records : All SmallRecord (s .recordRows)
   pub places : All Small (s .placeRows)
+  pub names : All SmallName (s .nameRows)
 
 -- u has tables and slab as long as those of s, and its numbers are of 32 bits if those of s are
 pub record Kept (s u : Store) : Type 0 where
   pub branches : length (u .branchRows) ≡ length (s .branchRows)
   pub records : length (u .recordRows) ≡ length (s .recordRows)
   pub places : length (u .placeRows) ≡ length (s .placeRows)
+  pub names : length (u .nameRows) ≡ length (s .nameRows)
   pub slab : length (u .slab) ≡ length (s .slab)
   pub narrow : Narrow s → Narrow u
 
 kept-none : (s : Store) → Kept s s
-kept-none s = record { branches = refl; records = refl; places = refl; slab = refl; narrow = λ n. n }
+kept-none s = record { branches = refl; records = refl; places = refl; names = refl; slab = refl; narrow = λ n. n }
 
 pub kept-then : {s t u : Store} → Kept s t → Kept t u → Kept s u
 kept-then x y =
@@ -102,6 +112,7 @@ kept-then x y =
       branches = y .branches ∙ x .branches;
       records = y .records ∙ x .records;
       places = y .places ∙ x .places;
+      names = y .names ∙ x .names;
       slab = y .slab ∙ x .slab;
       narrow = λ n. y .narrow (x .narrow n);
     }
@@ -130,11 +141,12 @@ inserted-kept s r page k h w ad rm room inside kl =
       records =
           omega (arith, length-append (putIn k r (records s)) (drop (s .head .records + 1) (s .recordRows)), length-put k r (records s), length-drop (s .head .records + 1) (s .recordRows));
       places = simp (length-set, length-map);
+      names = refl;
       slab = length-withPage (s .slab) (r .place) page w (omega (arith, z .allowed .slab));
       narrow =
           λ n.
           record {
-            head = record { size = n .head .size; branches = n .head .branches; records = omega (arith, z .allowed .records-high); now = n .head .now; floor = n .head .floor };
+            head = record { size = n .head .size; branches = n .head .branches; records = omega (arith, z .allowed .records-high); now = n .head .now; floor = n .head .floor; names = n .head .names };
             branches = n .branches;
             records =
                 all-append {xs = putIn k r (records s)}
@@ -148,6 +160,7 @@ inserted-kept s r page k h w ad rm room inside kl =
                 })
                 (all-drop (s .head .records + 1) (n .records));
             places = all-set (r .place) (suc k) shifts (omega (arith, z .records-counted, z .allowed .records-high));
+            names = n .names;
           };
     }
   where
@@ -184,8 +197,9 @@ written-kept s a page h w ad =
       branches = refl;
       records = refl;
       places = refl;
+      names = refl;
       slab = length-withPage (s .slab) (q .place) page w (omega (arith, z .allowed .slab));
-      narrow = λ n. record { head = n .head; branches = n .branches; records = n .records; places = n .places };
+      narrow = λ n. record { head = n .head; branches = n .branches; records = n .records; places = n .places; names = n .names };
     }))
 
 branched-kept : (s : Store) (m : ℕ) → Sound s → m < s .head .now → s .head .now < open-end → s .head .branches < length (s .branchRows) → Kept s (branched s m)
@@ -196,18 +210,20 @@ branched-kept s m h l t room =
       branches = simp length-set;
       records = refl;
       places = refl;
+      names = refl;
       slab = refl;
       narrow =
           λ n.
           let last : SmallBranch (getD (s .branchRows) (s .head .branches - 1) zero-branch) =
           n .branches .each (getD (s .branchRows) (s .head .branches - 1) zero-branch) (getD-mem (s .branchRows) (s .head .branches - 1) zero-branch (omega (arith, z .counted-low))) in
           record {
-            head = record { size = n .head .size; branches = omega (arith, z .allowed .branches-high); records = n .head .records; now = omega arith; floor = n .head .floor };
+            head = record { size = n .head .size; branches = omega (arith, z .allowed .branches-high); records = n .head .records; now = omega arith; floor = n .head .floor; names = n .head .names };
             branches =
                 all-set (s .head .branches) _ (all-set (s .head .branches - 1) _ (n .branches) (record { start = last .start; end = omega arith; cut = last .cut }))
                 (record { start = omega arith; end = omega arith; cut = omega arith });
             records = n .records;
             places = n .places;
+            names = n .names;
           };
     }
 
@@ -229,6 +245,7 @@ reclaimed-kept s m h u =
       branches = length-closed zero-branch (keep (isAncestor s m) (branches s)) (s .head .branches) (s .branchRows) (omega arith) (z .counted-high);
       records = length-closed zero-record (keep (isGiven s m) (records s)) (s .head .records) (s .recordRows) (omega arith) (z .records-counted);
       places = length-map (s .placeRows) _;
+      names = refl;
       slab = refl;
       narrow =
           λ n.
@@ -240,6 +257,7 @@ reclaimed-kept s m h u =
                   records = omega (arith, z .records-counted, z .allowed .records-high);
                   now = n .head .now;
                   floor = omega (arith, n .head .now);
+                  names = n .head .names;
                 };
             branches =
                 closed-small zero-branch _ (s .head .branches) (s .branchRows) (record { start = omega arith; end = omega arith; cut = omega arith })
@@ -254,6 +272,7 @@ reclaimed-kept s m h u =
                       let q : (y : ℕ) × (y ∈ s .placeRows) × (x ≡ renumbered (isGiven s m) (records s) y) = map-mem (renumbered (isGiven s m) (records s)) x (s .placeRows) i in
                       rw (q .2) (renumbered-small (isGiven s m) (records s) (omega (arith, z .records-counted, z .allowed .records-high)) (q .0));
                 };
+            names = n .names;
           };
     }
   where
@@ -263,6 +282,37 @@ reclaimed-kept s m h u =
         case (k (getD rs i zero-record))
         (λ e. rw e (omega (arith, length-keep k (take i rs), length-take i rs)))
         (λ e. rw e (omega arith))
+
+-- other names, in as many rows
+named-kept : (s : Store) (count : ℕ) (rows : List Name) → length rows ≡ length (s .nameRows) → count ≤ 32 → (Narrow s → All SmallName rows) → Kept s (withNames s count rows)
+named-kept s count rows l c f =
+    record {
+      branches = refl;
+      records = refl;
+      places = refl;
+      names = l;
+      slab = refl;
+      narrow =
+          λ n.
+          record {
+            head = record { size = n .head .size; branches = n .head .branches; records = n .head .records; now = n .head .now; floor = n .head .floor; names = omega arith };
+            branches = n .branches;
+            records = n .records;
+            places = n .places;
+            names = f n;
+          };
+    }
+
+withdrawn-kept : (s : Store) (high low : ℕ) → Sizes s → Kept s (withNames s (length (without high low (names s))) (closedUp zero-name (without high low (names s)) (s .head .names) (s .nameRows)))
+withdrawn-kept s high low z =
+    let l : length (without high low (names s)) ≤ s .head .names = fewer-names s high low z in
+    let old : Narrow s → All SmallName (names s) = unfold names in λ n. all-take (s .head .names) (n .names) in
+    named-kept s (length (without high low (names s))) _
+    (length-closed zero-name (without high low (names s)) (s .head .names) (s .nameRows) l (omega (arith, z .names-counted, z .allowed .name-rows)))
+    (omega (arith, z .names-counted))
+    (λ n.
+    closed-small zero-name _ (s .head .names) (s .nameRows) (record { high = omega arith; low = omega arith; moment = omega arith })
+    (all-keep (λ x. not (isCalled high low x)) (old n)) (n .names))
 
 pub step-kept : (s : Store) (q : Request) → Sound s → Whole q → Kept s (step s q .store)
 unfolding step doWrite doMark doRevert doRead doReclaim
@@ -277,14 +327,16 @@ step-kept s mark h w =
       branches = refl;
       records = refl;
       places = refl;
+      names = refl;
       slab = refl;
       narrow =
           λ n.
           record {
-            head = record { size = n .head .size; branches = n .head .branches; records = n .head .records; now = omega arith; floor = n .head .floor };
+            head = record { size = n .head .size; branches = n .head .branches; records = n .head .records; now = omega arith; floor = n .head .floor; names = n .head .names };
             branches = n .branches;
             records = n .records;
             places = n .places;
+            names = n .names;
           };
     }))
     (λ e. rw e (kept-none s))
@@ -313,6 +365,12 @@ step-kept s (reclaim m) h w =
     case (ltb (s .head .now) m)
     (λ e. rw (e₁, e) (kept-none s))
     (λ e₂. rw (e₁, e₂) (reclaimed-kept s m h (ltb-false (s .head .now) m e₂))))
+step-kept s (give n) h w =
+    give-cases (λ st. Kept s (st .store)) s n (λ k i j. kept-none s)
+    (λ (g : Givable s n).
+    named-kept s (s .head .names + 1) _ (length-set (s .nameRows) (s .head .names) n) (omega arith)
+    (λ o. all-set (s .head .names) n (o .names) (record { high = w .0; low = w .1; moment = omega (arith, h .sizes .now-high) })))
+step-kept s (withdraw high low) h w = withdraw-cases (λ st. Kept s (st .store)) s high low (λ e. kept-none s) (λ n e. withdrawn-kept s high low (h .sizes))
 
 -- and so does a batch, which leaves sound tables
 abbrev KeptSound : Store → Store → Type 0

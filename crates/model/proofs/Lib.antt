@@ -2,6 +2,7 @@ pub mod Base
 pub mod Latest
 pub mod Ancestry
 pub mod AncestryKept
+pub mod Names
 pub mod Places
 pub mod Pages
 pub mod Invariant
@@ -10,6 +11,7 @@ pub mod Moves
 pub mod Writing
 pub mod Reclaiming
 pub mod Reading
+pub mod Naming
 pub mod Candidates
 pub mod ByNumber
 pub mod Packing
@@ -25,3 +27,4 @@ pub mod Packed
 pub mod Demand3
 pub mod Copies
 pub mod Putting
+pub mod Commissioned

@@ -1,7 +1,7 @@
 -- What each request keeps of the invariant: refusals, mark, revert.
 use Prim.Native.Nat.{ℕ, suc, _+_, _-_, _≤_, _<_}
 use mathlib.Core.Path.{_≡_, refl, sym, ap, _∙_}
-use mathlib.Core.Logic.{_≢_}
+use mathlib.Core.Logic.{_≢_, inl, inr}
 use mathlib.Core.List.{List, [], _∷_, _++_, reverse}
 use mathlib.Core.Option.{Option, none}
 use mathlib.Core.Bool.{true, false, false≢true}
@@ -13,15 +13,17 @@ use lib.Seq.{take-suc, take-suc-set}
 use borrow.Author.Tests.{ltb-true, leb-true, leb-false, eqb-true, eqb-false, le-leb}
 use Rattle.model.specs.declared.Branch.{Branch}
 use Rattle.model.specs.declared.Record.{Record}
-use Rattle.model.specs.Store.{Store, branches, newest, records, any, open-end, zero-branch, foundPage, _∈_}
+use Rattle.model.specs.declared.Name.{Name}
+use Rattle.model.specs.Store.{Store, branches, newest, records, names, moments, any, open-end, zero-branch, foundPage, _∈_}
 use Rattle.model.specs.Lookup.{holds, within, orElse, latest, lookup, readable}
-use Rattle.model.specs.Wire.{Request, write, mark, revert, readAt, reclaim, refused}
+use Rattle.model.specs.Wire.{Request, write, mark, revert, readAt, reclaim, give, withdraw, refused}
 use Rattle.model.specs.Step.{Stepped, unchanged, doMark, closedAt, branched, doRevert}
 use Rattle.model.specs.Reference.{Snapshot, Reference, withSnapshot, accept, feed}
-use Rattle.model.proofs.Base.{case, absurd-test, reverse-snoc, readable-above, readable→}
+use Rattle.model.proofs.Base.{case, absurd-test, reverse-snoc, map-mem, readable-above, readable→}
 use Rattle.model.proofs.Latest.{Within, not-within, latest-none, latest-same}
 use Rattle.model.proofs.Ancestry.{→holds, not-holds, any-head, any-tail, find-hold, find-skip}
-use Rattle.model.specs.ByNumber.{Chain, Open, SoundRows, find, Sizes, Fits, Sound}
+use Rattle.model.specs.ByNumber.{Chain, Open, SoundRows, find, Sizes, Fits, NameFits, Sound}
+use Rattle.model.proofs.Names.{names-stay}
 use Rattle.model.proofs.Invariant.{Reads, Inv, referenceOf}
 use Rattle.model.specs.Demand3.{refuses, Right, acceptedReclaim, Exact}
 
@@ -33,7 +35,7 @@ pub record Stepping (s : Store) (p : Reference) (q : Request) (st : Stepped) : T
   pub exact : acceptedReclaim q (st .answer) ≡ true → Exact (st .store) (feed p q (refuses (st .answer)))
 
 pub same-inv : (s : Store) (snaps : ℕ → Snapshot) → Sound s → Reads s snaps → Inv s (referenceOf s snaps)
-same-inv s snaps h r = record { sound = h; now = refl; floor = refl; held = refl; reads = r }
+same-inv s snaps h r = record { sound = h; now = refl; floor = refl; names = refl; held = refl; reads = r }
 
 not-reclaim : (q : Request) (n : ℕ) → acceptedReclaim q (refused (suc n)) ≡ false
 not-reclaim (write a page) n = refl
@@ -41,6 +43,8 @@ not-reclaim mark n = refl
 not-reclaim (revert m) n = refl
 not-reclaim (readAt a m) n = refl
 not-reclaim (reclaim m) n = eqb·suc-zero n
+not-reclaim (give x) n = refl
+not-reclaim (withdraw high low) n = refl
 
 -- a refusal changes nothing
 pub refused-step : (s : Store) (snaps : ℕ → Snapshot) → Sound s → Reads s snaps → (n : ℕ) (q : Request) → Right (s .head .size) (referenceOf s snaps) q (refused (suc n))
@@ -94,7 +98,7 @@ mark-find rs a floor now (b ∷ bs) l h u =
     ∙ (ap (λ (x : Option Record). orElse x (find rs a bs (b .cut))) e ∙ sym (find-hold rs a b bs now (→holds b now (omega arith) (omega arith))))
 
 pub mark-step : (s : Store) (snaps : ℕ → Snapshot) → Sound s → Reads s snaps → Stepping s (referenceOf s snaps) mark (doMark s)
-unfolding doMark feed accept newest branches records lookup
+unfolding doMark feed accept newest branches records names lookup
 mark-step s snaps h r =
     case (ltb (s .head .now) open-end)
     (λ e.
@@ -108,6 +112,7 @@ mark-step s snaps h r =
                 record {
                   sizes = omega arith;
                   rows = rows-later _ _ _ (newest s) (omega arith) (h .rows);
+                  names = names-stay _ _ (newest s) (newest s) (names s) (omega arith) (λ n m (g : NameFits (s .head .now) (newest s) n). g .held) (h .names);
                   ascends = h .ascends;
                   fits =
                       λ q m. let f : Fits (s .head .size) (s .head .now) (newest s) q = h .fits q m in
@@ -117,9 +122,10 @@ mark-step s snaps h r =
                 };
             now = refl;
             floor = refl;
+            names = refl;
             held = refl;
             reads =
-                sealed-reads s snaps (lookup s) (s .head .now) r (readable-above _ (s .head .now) (z .floor-now)) (omega arith) (λ a t i j. refl)
+                sealed-reads s snaps (lookup s) (s .head .now) r (readable-above _ _ (s .head .now) (z .floor-now)) (omega arith) (λ a t i j. refl)
                 (λ a. mark-find (records s) a _ _ (newest s) l (h .rows) (up-to s h));
           };
       right = λ x. refl;
@@ -164,7 +170,13 @@ rows-covered floor now t [] h n i j = absurd h
 rows-covered floor now t (b ∷ bs) h n i j = covered floor b bs t (h .1) i (omega (arith, h .0))
 
 pub readable-held : (s : Store) → Sound s → (t : ℕ) → readable s t ≡ true → t ≤ s .head .now → any (λ d. holds d t) (newest s) ≡ true
-readable-held s h t e l = rows-covered _ _ t (newest s) (h .rows) (h .sizes .now-high) (readable→ _ t e) l
+readable-held s h t e l =
+    elim (readable→ _ (moments (names s)) t e) [
+      | inl i ↦ rows-covered _ _ t (newest s) (h .rows) (h .sizes .now-high) i l
+      | inr i ↦
+          let g : (n : Name) × (n ∈ names s) × (t ≡ n .moment) = map-mem (λ n. n .moment) t (names s) i in
+          rw (g .2) (h .names .fit (g .0) (g .1) .held)
+    ]
 
 chain-closed : (floor now : ℕ) (b : Branch) (bs : List Branch) → b .start ≤ now → Chain floor (b ∷ bs) → Chain floor (closedAt now b ∷ bs)
 chain-closed floor now b [] l h = record { start = h .start; cut = h .cut; ordered = l }
@@ -235,33 +247,32 @@ revert-new rs a now m b bs i l o u =
 
 pub revert-inv : (s : Store) (snaps : ℕ → Snapshot) (m : ℕ) → Sound s → Reads s snaps → readable s m ≡ true → m < s .head .now → s .head .now < open-end
     → s .head .branches < length (s .branchRows) → Branching s m → Inv (branched s m) (accept (referenceOf s snaps) (revert m))
-unfolding accept records lookup branched
+unfolding accept records names lookup branched
 revert-inv s snaps m h r i j l c b =
     let z : Sizes s = h .sizes in
     let n : length (branched s m .branchRows) ≡ length (s .branchRows) = simp length-set in
     let rows : SoundRows (s .head .floor) (s .head .now) (b .row ∷ b .earlier) = rw (b .was) at (h .rows) in
     let o : Open (s .head .now) (b .row) = rows .0 in
+    let kept : (x : ℕ) → x ≤ s .head .now → any (λ d. holds d x) (newest s) ≡ true → any (λ d. holds d x) (newest (branched s m)) ≡ true =
+    λ x k e. rw (b .is) (any-tail _ _ x (any-closed (b .row) (b .earlier) (s .head .now) x k (omega arith) ∙ rw (b .was) at e)) in
     record {
       sound =
           record {
             sizes = omega arith;
+            names =
+                names-stay _ _ (newest s) (newest (branched s m)) (names s) (omega arith)
+                (λ n k (f : NameFits (s .head .now) (newest s) n). kept (n .moment) (omega (arith, f .below)) (f .held)) (h .names);
             rows = rw (b .is) (revert-rows _ _ m (b .row) (b .earlier) l (rw (b .was) at (readable-held s h m i (omega arith))) j rows);
             ascends = h .ascends;
             fits =
-                λ q k.
-                let f : Fits (s .head .size) (s .head .now) (newest s) q = h .fits q k in
-                let g : any (λ d. holds d (q .moment)) (b .row ∷ b .earlier) ≡ true = rw (b .was) at (f .held) in
-                rw (b .is)
-                (record {
-                  address = f .address;
-                  moment = omega (arith, f .moment);
-                  held = any-tail _ _ (q .moment) (any-closed (b .row) (b .earlier) (s .head .now) (q .moment) (f .moment) (omega arith) ∙ g);
-                });
+                λ q k. let f : Fits (s .head .size) (s .head .now) (newest s) q = h .fits q k in
+                record { address = f .address; moment = omega (arith, f .moment); held = kept (q .moment) (f .moment) (f .held) };
             named = h .named;
             in-use = h .in-use;
           };
       now = refl;
       floor = refl;
+      names = refl;
       held = refl;
       reads =
           sealed-reads s snaps (lookup (branched s m)) m r i (omega arith)

@@ -6,11 +6,13 @@ use mathlib.Core.Option.{none}
 use mathlib.Core.Bool.{true, false}
 use borrow.Author.Tests.{lt-ltb, le-ltb, le-leb, lt-leb}
 use lib.ListN.{length}
-use Rattle.model.specs.Store.{Store, open-end}
+use Rattle.model.specs.declared.Name.{Name}
+use Rattle.model.specs.Store.{Store, names, moments, isCalled, called, any, open-end, _∈_}
 use Rattle.model.specs.Lookup.{readable}
-use Rattle.model.specs.Soundness.{inRange, branchesSound, recordsSound, tableCheck}
+use Rattle.model.specs.Soundness.{inRange, rowsSound, recordsSound, tableCheck}
 use Rattle.model.specs.Wire.{refused}
-use Rattle.model.specs.Step.{standing, firstFree, doWrite, doMark, doRevert, doRead, doReclaim}
+use Rattle.model.specs.Step.{standing, firstFree, doWrite, doMark, doRevert, doRead, doReclaim, doGive, doWithdraw}
+use Rattle.model.proofs.Base.{readable-named, not-readable}
 
 -- the table checks: 1, 2, 3
 module _ (s : Store) where
@@ -18,13 +20,20 @@ module _ (s : Store) where
   unfolding tableCheck
   check-1 a = rw a
 
-  pub check-2 : inRange s ≡ true → branchesSound s ≡ false → tableCheck s ≡ 2
+  pub check-2 : inRange s ≡ true → rowsSound s ≡ false → tableCheck s ≡ 2
   unfolding tableCheck
   check-2 a b = rw (a, b)
 
-  pub check-3 : inRange s ≡ true → branchesSound s ≡ true → recordsSound s ≡ false → tableCheck s ≡ 3
+  pub check-3 : inRange s ≡ true → rowsSound s ≡ true → recordsSound s ≡ false → tableCheck s ≡ 3
   unfolding tableCheck
   check-3 a b c = rw (a, b, c)
+
+-- 8 is met below the floor, at a moment that is not named; a named one is readable
+pub below-8 : (s : Store) (m : ℕ) → m < s .head .floor → (m ∈ moments (names s) → ⊥) → readable s m ≡ false
+below-8 s m h f = not-readable (s .head .floor) (moments (names s)) m h f
+
+pub named-no-8 : (s : Store) (m : ℕ) → m ∈ moments (names s) → readable s m ≡ true
+named-no-8 s m h = readable-named (s .head .floor) (moments (names s)) m h
 
 -- write: 4, 5, 6
 module _ (s : Store) (a : ℕ) (page : List ℕ) where
@@ -78,7 +87,31 @@ module _ (s : Store) (a m : ℕ) where
   unfolding doRead
   read-9 h e l = rw (lt-ltb a (s .head .size) h, e, lt-ltb (s .head .now) m l)
 
--- reclaim: 8, 9
+-- naming: 8, 9, 15, 16
+module _ (s : Store) (n : Name) where
+  pub give-8 : readable s (n .moment) ≡ false → doGive s n .answer ≡ refused 8
+  unfolding doGive
+  give-8 e = rw e
+
+  pub give-9 : readable s (n .moment) ≡ true → s .head .now ≤ n .moment → doGive s n .answer ≡ refused 9
+  unfolding doGive
+  give-9 e h = rw (e, le-leb (s .head .now) (n .moment) h)
+
+  pub give-15 : readable s (n .moment) ≡ true → n .moment < s .head .now → any (isCalled (n .high) (n .low)) (names s) ≡ true → doGive s n .answer ≡ refused 15
+  unfolding doGive
+  give-15 e h c = rw (e, lt-leb (s .head .now) (n .moment) h, c)
+
+  pub give-16 : readable s (n .moment) ≡ true → n .moment < s .head .now → any (isCalled (n .high) (n .low)) (names s) ≡ false → 32 ≤ s .head .names
+      → doGive s n .answer ≡ refused 16
+  unfolding doGive
+  give-16 e h c l = rw (e, lt-leb (s .head .now) (n .moment) h, c, le-leb 32 (s .head .names) l)
+
+-- withdrawing: 17
+pub withdraw-17 : (s : Store) (high low : ℕ) → called high low (names s) ≡ none → doWithdraw s high low .answer ≡ refused 17
+unfolding doWithdraw
+withdraw-17 s high low e = rw e
+
+-- reclaim: 8, 9, also at a named moment
 module _ (s : Store) (m : ℕ) where
   pub reclaim-8 : m < s .head .floor → doReclaim s m .answer ≡ refused 8
   unfolding doReclaim

@@ -1,10 +1,8 @@
 -- Change request Two: the place that a write takes, and how far the places in use reach.
-use Prim.Native.Nat.{ℕ, zero, suc, _+_, _≤_, _<_, suc-le-suc}
+use Prim.Native.Nat.{ℕ, zero, suc, _≤_, _<_, suc-le-suc}
 use mathlib.Core.Path.{_≡_, refl, sym, ap, _∙_}
-use mathlib.Core.Logic.{_⊎_, inl, inr}
+use mathlib.Core.Logic.{inl, inr}
 use mathlib.Core.List.{List, [], _∷_, map}
-use mathlib.Core.Option.{some, none}
-use native.Mathlib.Nat.{le-of-suc-le-suc}
 use native.Mathlib.Omega.{arith}
 use lib.Dec.{leb, ltb}
 use lib.ListN.{length, getD, set, length-map, List·getD-eq-default}
@@ -13,12 +11,12 @@ use borrow.Author.Tests.{ltb-true, ltb-false}
 use Rattle.model.specs.declared.Record.{Record}
 use Rattle.model.specs.Store.{Store, branches, records, keep, open-end, _∈_}
 use Rattle.model.specs.Lookup.{readable, isGiven, isAncestor}
-use Rattle.model.specs.Wire.{Request, write, mark, revert, readAt, reclaim}
+use Rattle.model.specs.Wire.{Request, write, mark, revert, readAt, reclaim, give, withdraw}
 use Rattle.model.specs.Step.{Stepped, firstFree, shifted, before, putIn, inserted, intoFree, standing, doWrite, doMark, branched, doRevert, doRead, reclaimed, doReclaim, step}
 use Rattle.model.specs.Reference.{Reference, feed}
 use Rattle.model.specs.Demand3.{refuses}
-use Rattle.model.specs.ByNumber.{Sizes, Sound, Whole}
-use Rattle.model.specs.Packed.{SmallestFree, PutIn, Packs, TakesSmallest, reach}
+use Rattle.model.specs.ByNumber.{Sound, Whole}
+use Rattle.model.specs.Packed.{Packs, TakesSmallest, reach}
 use Rattle.model.proofs.Base.{case, both, mem-keep}
 use Rattle.model.proofs.Latest.{caseOption}
 use Rattle.model.proofs.Places.{firstFree→, firstFree-none, firstFree-used, shifted-low}
@@ -27,6 +25,7 @@ use Rattle.model.proofs.Checked.{check-sound}
 use Rattle.model.proofs.Writing.{put-mem, length-records, inserted-records}
 use Rattle.model.proofs.Reclaiming.{reclaimed-records}
 use Rattle.model.proofs.Reading.{read-leaves}
+use Rattle.model.proofs.Naming.{give-cases, withdraw-cases}
 use Rattle.model.proofs.Steps.{step-inv}
 
 -- the reach by row number: behind it every place is free, and it is the smallest such number
@@ -110,6 +109,8 @@ step-bounded n s (readAt a m) h = rw (read-leaves s a m) (λ l k. l)
 step-bounded n s (reclaim m) h =
     both (Bounded n s) (ltb m (s .head .floor)) (λ l k. l)
     (both (Bounded n s) (ltb (s .head .now) m) (λ l k. l) (λ l k. map-reach _ (s .placeRows) n refl l))
+step-bounded n s (give x) h = give-cases (Bounded n s) s x (λ k i j l m. l) (λ g l m. l)
+step-bounded n s (withdraw high low) h = withdraw-cases (Bounded n s) s high low (λ e l m. l) (λ x e l m. l)
 
 -- as many pairs are held as records are counted
 held-counted : (s : Store) (p : Reference) → Inv s p → length (p .held) ≡ s .head .records
@@ -178,6 +179,10 @@ step-packs s (reclaim m) h =
       placed = λ r k. inl (mem-keep (isGiven s m) r (records s) (rw (reclaimed-records s m (keep (isAncestor s m) (branches s)) (keep (isGiven s m) (records s))) at k) .0);
       full = λ d. absurd (omega (arith, d));
     }))
+step-packs s (give n) h = give-cases (Packs s (give n)) s n (λ k i j. still s (give n) _ refl (λ d. omega (arith, d))) (λ g. still s (give n) _ refl (λ d. omega (arith, d)))
+step-packs s (withdraw high low) h =
+    withdraw-cases (Packs s (withdraw high low)) s high low (λ e. still s (withdraw high low) _ refl (λ d. omega (arith, d)))
+    (λ n e. still s (withdraw high low) _ refl (λ d. omega (arith, d)))
 
 pub takes-smallest : TakesSmallest
 takes-smallest s q n e = step-packs s q (check-sound s n e)

@@ -11,16 +11,18 @@ use lib.Seq.{take-append-seam, length-take-le}
 use borrow.Author.Tests.{ltb-false, eqb-true, eq-eqb}
 use Rattle.model.specs.declared.Branch.{Branch}
 use Rattle.model.specs.declared.Record.{Record}
-use Rattle.model.specs.Store.{Store, branches, newest, records, keep, any, zero-branch, zero-record, Page, pageOf, foundPage, _∈_}
-use Rattle.model.specs.Lookup.{holds, ancestry, lookup, isAt, isReadable, readable, isGiven, inAncestry, isAncestor}
+use Rattle.model.specs.declared.Name.{Name}
+use Rattle.model.specs.Store.{Store, branches, newest, records, names, moments, keep, any, zero-branch, zero-record, Page, pageOf, foundPage, _∈_}
+use Rattle.model.specs.Lookup.{holds, ancestry, lookup, isAt, readableFrom, readable, isGiven, inAncestry, isAncestor}
 use Rattle.model.specs.Wire.{reclaim, accepted}
 use Rattle.model.specs.Step.{unchanged, closedUp, reclaimed, doReclaim}
 use Rattle.model.specs.Reference.{Pair, Snapshot, Reference, hasMoment, isSeen, accept, feed}
-use Rattle.model.proofs.Base.{case, mem-keep, length-keep, keep-reverse, someReadable-intro, someReadable-elim, someReadable-same, readable-above, readable-less}
+use Rattle.model.proofs.Base.{case, any-mem, keep-mem, mem-keep, mem-map, length-keep, keep-reverse, someReadable-intro, someReadable-elim, someReadable-same, readable-above, readable-named, readable-less}
 use Rattle.model.proofs.Latest.{caseOption, firstFound-keep, asc-unique}
-use Rattle.model.specs.ByNumber.{Asc, SoundRows, find, Sizes, Fits, Sound}
+use Rattle.model.specs.ByNumber.{Asc, SoundRows, find, Sizes, Fits, NameFits, Sound}
 use Rattle.model.proofs.Ancestry.{Found, find→, startKept, ancestry-keep}
-use Rattle.model.proofs.AncestryKept.{starts, rows-keep}
+use Rattle.model.proofs.AncestryKept.{first-stage, starts, rows-keep}
+use Rattle.model.proofs.Names.{names-stay}
 use Rattle.model.proofs.Places.{reclaim-named, reclaim-used}
 use Rattle.model.proofs.Invariant.{Reads, Inv, referenceOf}
 use Rattle.model.specs.Demand3.{key, Readable, Exact}
@@ -33,7 +35,7 @@ pub length-closed : {A : Type 0} (z : A) (kept : List A) (count : ℕ) (rows : L
 length-closed z kept count rows i j =
     simp (length-append, length-replicate, length-drop) (omega arith)
 
-reclaimed-newest : (s : Store) (m : ℕ) (rs : List Record) → newest (reclaimed s m (keep (isAncestor s m) (branches s)) rs) ≡ keep (startKept (starts (newest s) (isReadable m) (s .head .now))) (newest s)
+reclaimed-newest : (s : Store) (m : ℕ) (rs : List Record) → newest (reclaimed s m (keep (isAncestor s m) (branches s)) rs) ≡ keep (startKept (starts (newest s) (readableFrom s m) (s .head .now))) (newest s)
 unfolding newest branches reclaimed isAncestor
 reclaimed-newest s m rs =
     let b : List Branch = take (s .head .branches) (s .branchRows) in
@@ -71,7 +73,7 @@ keys-keep k l (r ∷ rs) h =
 -- a record that some read gives
 pub record Given (s : Store) (m : ℕ) (r : Record) : Type 0 where
   pub moment : ℕ
-  pub low : isReadable m moment ≡ true
+  pub low : readableFrom s m moment ≡ true
   pub high : moment ≤ s .head .now
   pub found : lookup s (r .address) moment ≡ some r
 
@@ -79,27 +81,27 @@ module _ (s : Store) (m : ℕ) (h : Sound s) (l : s .head .floor ≤ m) (u : m �
   pub given→ : (r : Record) → r ∈ records s → isGiven s m r ≡ true → Given s m r
   unfolding isGiven lookup
   given→ r i e =
-      let g : (t : ℕ) × (isReadable m t ≡ true) × (t ≤ s .head .now) × (isAt (r .moment) (lookup s (r .address) t) ≡ true) = someReadable-elim (isReadable m) (s .head .now) _ e in
+      let g : (t : ℕ) × (readableFrom s m t ≡ true) × (t ≤ s .head .now) × (isAt (r .moment) (lookup s (r .address) t) ≡ true) = someReadable-elim (readableFrom s m) (s .head .now) _ e in
       let f : (q : Record) × (lookup s (r .address) (g .0) ≡ some q) × (q .moment ≡ r .moment) = isAt→ (r .moment) (lookup s (r .address) (g .0)) (g .3) in
       let d : Found (records s) (r .address) (g .0) (newest s) (f .0) =
       find→ (records s) (r .address) (newest s) (rows-falls _ _ (newest s) (h .rows)) (g .0) (f .0) (f .1) in
       let q : f .0 ≡ r = asc-unique (records s) (f .0) r (h .ascends) (d .counted) i (d .at) (f .2) in
       record { moment = g .0; low = g .1; high = g .2; found = f .1 ∙ ap (λ (x : Record). some x) q }
 
-  pub →given : (a t : ℕ) (r : Record) → isReadable m t ≡ true → t ≤ s .head .now → lookup s a t ≡ some r → isGiven s m r ≡ true
+  pub →given : (a t : ℕ) (r : Record) → readableFrom s m t ≡ true → t ≤ s .head .now → lookup s a t ≡ some r → isGiven s m r ≡ true
   unfolding isGiven lookup
   →given a t r i j e =
       let d : Found (records s) a t (newest s) r = find→ (records s) a (newest s) (rows-falls _ _ (newest s) (h .rows)) t r e in
       let e′ : lookup s (r .address) t ≡ some r = ap (λ (x : ℕ). lookup s x t) (d .at) ∙ e in
-      someReadable-intro (isReadable m) (s .head .now) (λ x. isAt (r .moment) (lookup s (r .address) x)) t i j (rw e′ (eq-eqb (r .moment) (r .moment) refl))
+      someReadable-intro (readableFrom s m) (s .head .now) (λ x. isAt (r .moment) (lookup s (r .address) x)) t i j (rw e′ (eq-eqb (r .moment) (r .moment) refl))
 
   abbrev κ : ℕ → Bool
-  κ = starts (newest s) (isReadable m) (s .head .now)
+  κ = starts (newest s) (readableFrom s m) (s .head .now)
 
-  kept-ancestry : (t : ℕ) → isReadable m t ≡ true → t ≤ s .head .now → ancestry (keep (startKept κ) (newest s)) t ≡ ancestry (newest s) t
-  kept-ancestry t i j = ancestry-keep κ (newest s) t (λ x o. someReadable-intro (isReadable m) (s .head .now) (λ y. inAncestry (newest s) y x) t i j o)
+  kept-ancestry : (t : ℕ) → readableFrom s m t ≡ true → t ≤ s .head .now → ancestry (keep (startKept κ) (newest s)) t ≡ ancestry (newest s) t
+  kept-ancestry t i j = ancestry-keep κ (newest s) t (λ x o. someReadable-intro (readableFrom s m) (s .head .now) (λ y. inAncestry (newest s) y x) t i j o)
 
-  kept-find : (a t : ℕ) → isReadable m t ≡ true → t ≤ s .head .now → find (keep (isGiven s m) (records s)) a (keep (startKept κ) (newest s)) t ≡ lookup s a t
+  kept-find : (a t : ℕ) → readableFrom s m t ≡ true → t ≤ s .head .now → find (keep (isGiven s m) (records s)) a (keep (startKept κ) (newest s)) t ≡ lookup s a t
   unfolding lookup
   kept-find a t i j = rw (kept-ancestry t i j) (firstFound-keep (isGiven s m) (records s) a (ancestry (newest s) t) (λ r e. →given a t r i j e))
 
@@ -107,20 +109,31 @@ module _ (s : Store) (m : ℕ) (h : Sound s) (l : s .head .floor ≤ m) (u : m �
   kept-held : (r : Record) → r ∈ records s → isGiven s m r ≡ true → any (λ d. holds d (r .moment)) (keep (startKept κ) (newest s)) ≡ true
   kept-held r i e =
       let g : Given s m r = given→ r i e in
-      let rows : SoundRows m (s .head .now) (keep (startKept κ) (newest s)) = rows-keep (newest s) (isReadable m) (s .head .floor) (s .head .now) m (readable-above m) (h .sizes .now-high) l u (h .rows) in
+      let rows : SoundRows m (s .head .now) (keep (startKept κ) (newest s)) = rows-keep (newest s) (readableFrom s m) (s .head .floor) (s .head .now) m (readable-above m _) (h .sizes .now-high) l u (h .rows) in
       let f : Found (keep (isGiven s m) (records s)) (r .address) (g .moment) (keep (startKept κ) (newest s)) r =
       find→ (keep (isGiven s m) (records s)) (r .address) (keep (startKept κ) (newest s)) (rows-falls m (s .head .now) (keep (startKept κ) (newest s)) rows) (g .moment) r
       (kept-find (r .address) (g .moment) (g .low) (g .high) ∙ g .found) in
       f .held
 
   -- what the higher floor leaves readable was readable
-  pub lower : (t : ℕ) → isReadable m t ≡ true → readable s t ≡ true
-  lower t = readable-less (s .head .floor) m t l
+  pub lower : (t : ℕ) → readableFrom s m t ≡ true → readable s t ≡ true
+  lower t = readable-less (s .head .floor) m _ _ t l (readable-named (s .head .floor) (moments (names s)))
+
+  -- a named moment is in a kept row
+  kept-name : (n : Name) → n ∈ names s → any (λ d. holds d (n .moment)) (keep (startKept κ) (newest s)) ≡ true
+  kept-name n i =
+      let f : NameFits (s .head .now) (newest s) n = h .names .fit n i in
+      let w : (d : Branch) × (d ∈ newest s) × (holds d (n .moment) ≡ true) × (inAncestry (newest s) (n .moment) (d .start) ≡ true) =
+      first-stage (newest s) (n .moment) (f .held) in
+      let k : κ (w .0 .start) ≡ true =
+      someReadable-intro (readableFrom s m) (s .head .now) (λ y. inAncestry (newest s) y (w .0 .start)) (n .moment)
+      (readable-named m (moments (names s)) (n .moment) (mem-map (λ x. x .moment) n (names s) i)) (omega (arith, f .below)) (w .3) in
+      any-mem (λ d. holds d (n .moment)) (w .0) _ (keep-mem (startKept κ) (w .0) (newest s) (w .1) k) (w .2)
 
   given-seen : (snaps : ℕ → Snapshot) → Reads s snaps → (r : Record) → isGiven s m r ≡ isSeen (referenceOf s snaps) m (key r)
   unfolding isGiven isSeen
   given-seen snaps rd r =
-      someReadable-same (isReadable m) (s .head .now) _ _
+      someReadable-same (readableFrom s m) (s .head .now) _ _
       (λ t i j. isAt-foundPage (r .moment) (s .slab) (lookup s (r .address) t) ∙ ap (hasMoment (r .moment)) (rd (r .address) t (lower t i) j))
 
 length-rows : (floor now : ℕ) (bs : List Branch) → SoundRows floor now bs → 1 ≤ length bs
@@ -131,7 +144,7 @@ pub length-branches : (s : Store) → Sizes s → length (branches s) ≡ s .hea
 unfolding branches
 length-branches s z = length-take-le (s .head .branches) (s .branchRows) (z .counted-high)
 
-length-kept : (s : Store) (m : ℕ) → length (keep (startKept (starts (newest s) (isReadable m) (s .head .now))) (newest s)) ≡ length (keep (isAncestor s m) (branches s))
+length-kept : (s : Store) (m : ℕ) → length (keep (startKept (starts (newest s) (readableFrom s m) (s .head .now))) (newest s)) ≡ length (keep (isAncestor s m) (branches s))
 unfolding newest isAncestor
 length-kept s m = ap length (sym (keep-reverse (isAncestor s m) (branches s))) ∙ length-reverse (keep (isAncestor s m) (branches s))
 
@@ -141,7 +154,7 @@ pub stored-any : (s : Store) (p : Reference) → Inv s p → (a t : ℕ) (g : Pa
 unfolding lookup
 stored-any s p v a t g i e =
     let en : s .head .now ≡ p .now = v .now in
-    let low : readable s t ≡ true = rw (v .floor) (i .low) in
+    let low : readable s t ≡ true = rw (v .names, v .floor) (i .low) in
     let c : foundPage (s .slab) (lookup s a t) ≡ some g = v .reads a t low (omega arith) ∙ e in
     caseOption (lookup s a t)
     (λ n.
@@ -167,13 +180,13 @@ module _ (s : Store) (snaps : ℕ → Snapshot) (m : ℕ) (h : Sound s) (rd : Re
   keys : map key rs′ ≡ keep (isSeen (referenceOf s snaps) m) (map key (records s))
   keys = keys-keep (isGiven s m) (isSeen (referenceOf s snaps) m) (records s) (given-seen s m h l u snaps rd)
 
-  reclaim-inv : newest s′ ≡ keep (startKept (starts (newest s) (isReadable m) (s .head .now))) (newest s) → records s′ ≡ rs′
+  reclaim-inv : newest s′ ≡ keep (startKept (starts (newest s) (readableFrom s m) (s .head .now))) (newest s) → records s′ ≡ rs′
       → Inv s′ (accept (referenceOf s snaps) (reclaim m))
-  unfolding accept reclaimed lookup
+  unfolding accept reclaimed names lookup
   reclaim-inv en er =
       let z : Sizes s = h .sizes in
-      let rows : SoundRows m (s .head .now) (keep (startKept (starts (newest s) (isReadable m) (s .head .now))) (newest s)) =
-      rows-keep (newest s) (isReadable m) (s .head .floor) (s .head .now) m (readable-above m) (z .now-high) l u (h .rows) in
+      let rows : SoundRows m (s .head .now) (keep (startKept (starts (newest s) (readableFrom s m) (s .head .now))) (newest s)) =
+      rows-keep (newest s) (readableFrom s m) (s .head .floor) (s .head .now) m (readable-above m _) (z .now-high) l u (h .rows) in
       let ln : length (records s) ≡ s .head .records = length-records s z in
       let lb : length (branches s) ≡ s .head .branches = length-branches s z in
       let kr : length rs′ ≤ length (records s) = length-keep (isGiven s m) (records s) in
@@ -181,12 +194,13 @@ module _ (s : Store) (snaps : ℕ → Snapshot) (m : ℕ) (h : Sound s) (rd : Re
       let cr : length (s′ .recordRows) ≡ length (s .recordRows) = length-closed zero-record rs′ (s .head .records) (s .recordRows) (omega arith) (omega arith) in
       let cb : length (s′ .branchRows) ≡ length (s .branchRows) = length-closed zero-branch bs′ (s .head .branches) (s .branchRows) (omega arith) (omega arith) in
       let cp : length (s′ .placeRows) ≡ length (s .placeRows) = length-map (s .placeRows) _ in
-      let one : 1 ≤ length bs′ = omega (arith, length-rows _ _ (keep (startKept (starts (newest s) (isReadable m) (s .head .now))) (newest s)) rows, length-kept s m) in
+      let one : 1 ≤ length bs′ = omega (arith, length-rows _ _ (keep (startKept (starts (newest s) (readableFrom s m) (s .head .now))) (newest s)) rows, length-kept s m) in
       record {
         sound =
             record {
               sizes = omega arith;
               rows = rw en rows;
+              names = rw en (names-stay _ _ (newest s) _ (names s) (omega arith) (λ n i g. kept-name s m h l u n i) (h .names));
               ascends = rw er (asc-keep (isGiven s m) (records s) (h .ascends));
               fits =
                   rw (er, en)
@@ -199,12 +213,13 @@ module _ (s : Store) (snaps : ℕ → Snapshot) (m : ℕ) (h : Sound s) (rd : Re
             };
         now = refl;
         floor = refl;
+        names = refl;
         held = rw er keys;
         reads = λ a t i j. rw (er, en, kept-find s m h l u a t i j) (rd a t (lower s m h l u t i) j);
       }
 
   reclaim-exact : records s′ ≡ rs′ → Inv s′ (accept (referenceOf s snaps) (reclaim m)) → Exact s′ (accept (referenceOf s snaps) (reclaim m))
-  unfolding accept reclaimed
+  unfolding accept reclaimed names
   reclaim-exact er v =
       record {
         seen =

@@ -1,18 +1,19 @@
 -- Requests and answers: what is sent is what is read.
-use Prim.Native.Nat.{ℕ, _+_, _^_, _<_, _≤_}
+use Prim.Native.Nat.{ℕ, _+_, _*_, _/_, _%_, _^_, _<_, _≤_}
 use mathlib.Core.Path.{_≡_, refl, ap, _∙_}
 use mathlib.Core.List.{List, [], _∷_, _++_, append-assoc}
 use mathlib.Core.Option.{Option, some, none}
 use mathlib.Core.Bool.{true}
 use native.Mathlib.Omega.{arith}
-use native.Mathlib.Nat.{mod-eq-of-lt}
+use native.Mathlib.Nat.{mod-eq-of-lt, zero-add}
 use lib.Dec.{leb}
-use lib.ListN.{length, take, drop, length-append}
-use lib.Seq.{take-at, drop-at}
+use lib.ListN.{length, getD, take, drop, length-append}
+use lib.Seq.{take-at, drop-at, take-length}
 use borrow.Author.Tests.{le-leb}
 use Rattle.model.specs.Store.{Page, open-end}
-use Rattle.model.specs.Wire.{number, bytes, Field, packed, field, Request, write, mark, revert, readAt, reclaim, requestHead, requestBytes, one, byOperation, ofWord, parse, Answer, present, pageBytes, answerBytes}
+use Rattle.model.specs.Wire.{number, bytes, Field, packed, field, Request, write, mark, revert, readAt, reclaim, give, withdraw, requestHead, nameBytes, requestBytes, one, highOf, lowOf, byOperation, ofWord, parse, Answer, present, pageBytes, answerBytes}
 use Rattle.model.proofs.Packing.{number-bytes, length-bytes, Fit, bits, packed-fits, field-read}
+use Rattle.model.proofs.Bytes.{packed-join, number-fits, bytes-number}
 
 -- the fields of a request, and of an answer
 abbrev requestFields : ℕ → ℕ → ℕ → ℕ → List Field
@@ -46,6 +47,49 @@ parse-head o a m z rest ho ha hm hz =
     let fz : field w 0 5 ≡ z = field-read 0 (record { width = 3; value = o } ∷ record { width = 16; value = a } ∷ record { width = 32; value = m } ∷ []) (record { width = 5; value = z }) [] (fit .1 .1 .1) in
     parse-seven (requestHead o a m z) rest (length-bytes 7 w) ∙ rw (e, fo, fa, fm, fz)
 
+-- the fields of a name
+abbrev nameFields : ℕ → ℕ → List Field
+nameFields high low = record { width = 32; value = high } ∷ record { width = 32; value = low } ∷ []
+
+pub length-name : (high low : ℕ) → length (nameBytes high low) ≡ 8
+unfolding nameBytes
+length-name high low = length-bytes 8 (packed 0 (nameFields high low))
+
+-- the 8 bytes are those of the two numbers, four each: as they stand in a name row
+pub name-halves : (high low : ℕ) → low < 4294967296 → nameBytes high low ≡ bytes 4 high ++ bytes 4 low
+unfolding nameBytes packed
+name-halves high low l =
+    packed-join 4 4 (record { width = 32; value = high } ∷ []) (record { width = 32; value = low } ∷ []) (l, tt) refl ∙ rw (zero-add high, zero-add low)
+
+-- the 8 bytes that are read are those of the name
+pub name-kept : (xs : List ℕ) → length xs ≡ 8 → ((k : ℕ) → getD xs k 0 < 256) → nameBytes (highOf xs) (lowOf xs) ≡ xs
+unfolding nameBytes highOf lowOf packed
+name-kept xs l h =
+    let n : ℕ = number 0 xs in
+    let t : take 8 xs ≡ xs = rw l at (take-length xs) in
+    let small : n < 18446744073709551616 = rw l at (number-fits xs h) in
+    let e : n / 4294967296 % 4294967296 * 4294967296 + n % 4294967296 ≡ n = omega arith in
+    rw t (ap (bytes 8) (omega (arith, e)) ∙ rw l at (bytes-number xs h))
+
+-- a name that is sent is the name that is read, whatever follows
+record NameRead (high low : ℕ) (xs : List ℕ) : Type 0 where
+  long : leb 8 (length xs) ≡ true
+  high-read : highOf xs ≡ high
+  low-read : lowOf xs ≡ low
+
+name-read : (high low : ℕ) (rest : List ℕ) → high < 4294967296 → low < 4294967296 → NameRead high low (nameBytes high low ++ rest)
+unfolding nameBytes highOf lowOf
+name-read high low rest hh hl =
+    let w : ℕ = packed 0 (nameFields high low) in
+    let fit : Fit (nameFields high low) = (hh, (hl, tt)) in
+    let t : take 8 (bytes 8 w ++ rest) ≡ bytes 8 w = take-at (bytes 8 w) rest 8 (length-bytes 8 w) in
+    let e : number 0 (bytes 8 w) ≡ w = spelled 8 (nameFields high low) fit refl in
+    record {
+      long = le-leb 8 (length (bytes 8 w ++ rest)) (omega (arith, length-append (bytes 8 w) rest, length-bytes 8 w));
+      high-read = rw (t, e) (field-read 0 [] (record { width = 32; value = high }) _ fit);
+      low-read = rw (t, e) (field-read 0 (record { width = 32; value = high } ∷ []) (record { width = 32; value = low }) [] (fit .1));
+    }
+
 -- a request that can be sent: its fields fit, and its page is whole
 abbrev pub Sendable : Request → Type 0
 Sendable (write a page) = (a < 65536) × (length page ≡ 256)
@@ -53,9 +97,14 @@ Sendable mark = Unit {0}
 Sendable (revert m) = m < 4294967296
 Sendable (readAt a m) = (a < 65536) × (m < 4294967296)
 Sendable (reclaim m) = m < 4294967296
+Sendable (give n) = (n .high < 4294967296) × (n .low < 4294967296) × (n .moment < 4294967296)
+Sendable (withdraw high low) = (high < 4294967296) × (low < 4294967296)
 
 pub length-head : (o a m z : ℕ) → length (requestHead o a m z) ≡ 7
 length-head o a m z = length-bytes 7 (packed 0 (requestFields o a m z))
+
+length-named : (o m high low : ℕ) → length (requestHead o 0 m 0 ++ nameBytes high low) ≡ 15
+length-named o m high low = omega (arith, length-append (requestHead o 0 m 0) (nameBytes high low), length-head o 0 m 0, length-name high low)
 
 -- a request that is sent is the request that is read, with its length, whatever follows
 pub request-round : (q : Request) (rest : List ℕ) → Sendable q → parse (requestBytes q ++ rest) ≡ one q (length (requestBytes q))
@@ -71,6 +120,17 @@ request-round mark rest h = parse-head 2 0 0 0 rest (omega arith) (omega arith) 
 request-round (revert m) rest h = parse-head 3 0 m 0 rest (omega arith) (omega arith) h (omega arith)
 request-round (readAt a m) rest h = parse-head 4 a m 0 rest (omega arith) (h .0) (h .1) (omega arith)
 request-round (reclaim m) rest h = parse-head 5 0 m 0 rest (omega arith) (omega arith) h (omega arith)
+request-round (give n) rest h =
+    let name : List ℕ = nameBytes (n .high) (n .low) in
+    let r : NameRead (n .high) (n .low) (name ++ rest) = name-read (n .high) (n .low) rest (h .0) (h .1) in
+    ap parse (append-assoc (requestHead 6 0 (n .moment) 0) name rest)
+    ∙ (parse-head 6 0 (n .moment) 0 (name ++ rest) (omega arith) (omega arith) (h .2) (omega arith)
+    ∙ rw (r .long, r .high-read, r .low-read, length-named 6 (n .moment) (n .high) (n .low)))
+request-round (withdraw high low) rest h =
+    let r : NameRead high low (nameBytes high low ++ rest) = name-read high low rest (h .0) (h .1) in
+    ap parse (append-assoc (requestHead 7 0 0 0) (nameBytes high low) rest)
+    ∙ (parse-head 7 0 0 0 (nameBytes high low ++ rest) (omega arith) (omega arith) (omega arith) (omega arith)
+    ∙ rw (r .long, r .high-read, r .low-read, length-named 7 0 high low))
 
 -- the four fields of an answer's head
 abbrev pub answerFields : Answer → List Field

@@ -1,5 +1,5 @@
 -- Each request keeps a store sound, and against the reference.
-use Prim.Native.Nat.{ℕ, _≤_, _<_}
+use Prim.Native.Nat.{ℕ, suc, _≤_, _<_}
 use mathlib.Core.List.{List}
 use mathlib.Core.Option.{Option, some, none}
 use native.Mathlib.Omega.{arith}
@@ -10,7 +10,7 @@ use mathlib.Core.Path.{_≡_, refl, subst}
 use Rattle.model.specs.Store.{Store, newest, records, open-end, Page, foundPage}
 use Rattle.model.specs.Lookup.{lookup, readable}
 use Rattle.model.specs.Soundness.{tableCheck}
-use Rattle.model.specs.Wire.{Request, write, mark, revert, readAt, reclaim, accepted}
+use Rattle.model.specs.Wire.{Request, write, mark, revert, readAt, reclaim, give, withdraw, accepted}
 use Rattle.model.specs.Step.{Stepped, unchanged, standing, firstFree, intoFree, written, doWrite, doMark, doRevert, doRead, doReclaim, step}
 use Rattle.model.specs.Reference.{Snapshot, Reference}
 use Rattle.model.proofs.Base.{both}
@@ -23,6 +23,7 @@ use Rattle.model.proofs.Moves.{Stepping, mark-step, revert-step}
 use Rattle.model.proofs.Writing.{rows-falls, write-step}
 use Rattle.model.proofs.Reclaiming.{reclaim-step}
 use Rattle.model.proofs.Reading.{read-step}
+use Rattle.model.proofs.Naming.{give-cases, withdraw-cases, give-step, withdraw-step}
 use Rattle.model.proofs.RoundTrip.{DatedUpTo, AnswerRead, answer-round}
 
 step-canon : (s : Store) (snaps : ℕ → Snapshot) (q : Request) → Sound s → Reads s snaps → Whole q → Stepping s (referenceOf s snaps) q (step s q)
@@ -32,6 +33,8 @@ step-canon s snaps mark h r w = mark-step s snaps h r
 step-canon s snaps (revert m) h r w = revert-step s snaps m h r
 step-canon s snaps (readAt a m) h r w = read-step s snaps a m h r
 step-canon s snaps (reclaim m) h r w = reclaim-step s snaps m h r
+step-canon s snaps (give n) h r w = give-step s snaps n h r
+step-canon s snaps (withdraw high low) h r w = withdraw-step s snaps high low h r
 
 pub step-inv : (s : Store) (p : Reference) (q : Request) → Inv s p → Whole q → Stepping s p q (step s q)
 step-inv s p q v w = subst (λ (x : Reference). Stepping s x q (step s q)) (canon s p v) (step-canon s (p .snapshot) q (v .sound) (v .reads) w)
@@ -48,15 +51,15 @@ abbrev pub WholePage : Option Page → Type 0
 WholePage none = Unit {0}
 WholePage (some p) = length (p .bytes) ≡ 256
 
--- a request's own refusals are at most 10, an answer with a page leaves the store, a page is whole, and its date is at most the
+-- a request's own refusals are at most 17, an answer with a page leaves the store, a page is whole, and its date is at most the
 -- answer's number, which is the moment asked
 pub record Answers (s : Store) (st : Stepped) : Type 0 where
-  pub small : st .answer .refusal ≤ 10
+  pub small : st .answer .refusal ≤ 17
   pub leaves : (st .answer .page ≡ none → ⊥) → st .store ≡ s
   pub whole : WholePage (st .answer .page)
   pub dated : DatedUpTo (st .answer .value) (st .answer .page)
 
-refused-answers : (s : Store) (n : ℕ) → n ≤ 10 → Answers s (unchanged s n)
+refused-answers : (s : Store) (n : ℕ) → n ≤ 17 → Answers s (unchanged s n)
 refused-answers s n l = record { small = l; leaves = λ e. refl; whole = tt; dated = tt }
 
 accepted-answers : (s u : Store) (n : ℕ) → Answers s (record { store = u; answer = accepted n })
@@ -103,6 +106,8 @@ step-answers s (readAt a m) h =
 step-answers s (reclaim m) h =
     both (Answers s) (ltb m (s .head .floor)) (refused-answers s 8 (omega arith))
     (both (Answers s) (ltb (s .head .now) m) (refused-answers s 9 (omega arith)) (accepted-answers s _ _))
+step-answers s (give n) h = give-cases (Answers s) s n (λ k i j. refused-answers s (suc k) (omega arith)) (λ g. accepted-answers s _ _)
+step-answers s (withdraw high low) h = withdraw-cases (Answers s) s high low (λ e. refused-answers s 17 (omega arith)) (λ n e. accepted-answers s _ _)
 
 dated-later : (t u : ℕ) (o : Option Page) → t ≤ u → DatedUpTo t o → DatedUpTo u o
 dated-later t u none l h = tt

@@ -12,7 +12,7 @@ use lib.Seq.{take-at, length-take-le}
 use borrow.Author.Tests.{ltb-true, ltb-false, eqb-true, eqb-false}
 use Rattle.model.specs.declared.Branch.{Branch}
 use Rattle.model.specs.declared.Record.{Record}
-use Rattle.model.specs.Store.{Store, branches, newest, records, any, open-end, pageAt, withPage, foundPage, _∈_}
+use Rattle.model.specs.Store.{Store, branches, newest, records, names, any, open-end, pageAt, withPage, foundPage, _∈_}
 use Rattle.model.specs.Lookup.{holds, within, orElse, latest, lookup, readable}
 use Rattle.model.specs.Soundness.{precedes}
 use Rattle.model.specs.Wire.{write}
@@ -153,7 +153,7 @@ write-reads s snaps a page look slab′ r old hit pg rm other b t i j =
 overwrite-inv : (s : Store) (snaps : ℕ → Snapshot) (a : ℕ) (page : List ℕ) (r : Record) → Sound s → Reads s snaps → length page ≡ 256
     → latest (records s) a (s .head .now) (s .head .now) ≡ some r
     → Inv (withSlab s (withPage (s .slab) (r .place) page)) (accept (referenceOf s snaps) (write a page))
-unfolding accept records newest branches lookup
+unfolding accept records newest branches names lookup
 overwrite-inv s snaps a page r h rd w e =
     let z : Sizes s = h .sizes in
     let l : (r ∈ records s) × Within a (s .head .now) (s .head .now) r = latest→ (records s) a _ _ r e in
@@ -167,6 +167,7 @@ overwrite-inv s snaps a page r h rd w e =
           record {
             sizes = omega arith;
             rows = h .rows;
+            names = h .names;
             ascends = h .ascends;
             fits = h .fits;
             named = h .named;
@@ -174,6 +175,7 @@ overwrite-inv s snaps a page r h rd w e =
           };
       now = refl;
       floor = refl;
+      names = refl;
       held = rw (← ra, ← rm) (sym (hold-present r (records s) (h .ascends) (l .0)));
       reads =
           write-reads s snaps a page (lookup s) (withPage (s .slab) (r .place) page) r rd
@@ -222,7 +224,7 @@ insert-inv : (s : Store) (snaps : ℕ → Snapshot) (r : Record) (page : List �
     → r .place < length (s .placeRows) → getD (s .placeRows) (r .place) 0 ≡ 0 → k ≡ before r (records s)
     → records (inserted s r page k) ≡ putIn k r (records s)
     → Inv (inserted s r page k) (accept (referenceOf s snaps) (write (r .address) page))
-unfolding accept newest branches lookup inserted
+unfolding accept newest branches names lookup inserted
 insert-inv s snaps r page k h rd w ad rm none′ room′ inside free ek er =
     let z : Sizes s = h .sizes in
     let fits : 256 * r .place + 256 ≤ length (s .slab) = omega arith in
@@ -245,6 +247,7 @@ insert-inv s snaps r page k h rd w ad rm none′ room′ inside free ek er =
           record {
             sizes = omega arith;
             rows = h .rows;
+            names = h .names;
             ascends = rw er asc;
             fits = rw er
                 (λ q m.
@@ -260,6 +263,7 @@ insert-inv s snaps r page k h rd w ad rm none′ room′ inside free ek er =
           };
       now = refl;
       floor = refl;
+      names = refl;
       held =
           rw (er, ek) (hold-put r (records s) fresh)
           ∙ ap (λ (n : ℕ). hold (record { address = r .address; moment = n }) (map key (records s))) rm;

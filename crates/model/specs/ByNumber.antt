@@ -2,17 +2,18 @@
 -- Nothing here is needed to read the meaning: a store that passes the table checks has all of it (proofs/Checked, proofs/ByNumber).
 use Prim.Native.Nat.{ℕ, suc, _+_, _*_, _≤_, _<_}
 use mathlib.Core.Path.{_≡_}
-use mathlib.Core.List.{List, [], _∷_, map, reverse}
+use mathlib.Core.List.{List, [], _∷_, _++_, map, reverse}
 use mathlib.Core.Option.{Option}
-use mathlib.Core.Bool.{Bool, true}
+use mathlib.Core.Bool.{Bool, true, false}
 use lib.Dec.{ltb}
 use lib.ListN.{length, getD, take}
 use Rattle.model.specs.declared.Branch.{Branch}
 use Rattle.model.specs.declared.Record.{Record}
-use Rattle.model.specs.Store.{Store, newest, records, zero-branch, zero-record, keep, any, open-end, _∈_}
+use Rattle.model.specs.declared.Name.{Name}
+use Rattle.model.specs.Store.{Store, newest, records, names, isCalled, zero-branch, zero-record, zero-name, keep, any, open-end, _∈_}
 use Rattle.model.specs.Lookup.{holds, ancestry, firstFound}
 use Rattle.model.specs.Soundness.{precedes, used}
-use Rattle.model.specs.Wire.{Request, write, mark, revert, readAt, reclaim}
+use Rattle.model.specs.Wire.{Request, write, mark, revert, readAt, reclaim, give, withdraw}
 
 -- a row by its number
 abbrev pub branch : List Branch → ℕ → Branch
@@ -20,6 +21,9 @@ branch bs i = getD bs i zero-branch
 
 abbrev pub entry : List Record → ℕ → Record
 entry rs i = getD rs i zero-record
+
+abbrev pub nameRow : List Name → ℕ → Name
+nameRow ns i = getD ns i zero-name
 
 -- the first n rows, newest first
 abbrev pub newestOf : {A : Type 0} → List A → ℕ → List A
@@ -33,9 +37,12 @@ held bs n t = any (λ d. holds d t) (newestOf bs n)
 abbrev pub find : List Record → ℕ → List Branch → ℕ → Option Record
 find rs a bs t = firstFound rs a (ancestry bs t)
 
--- the moments that decide a reclaim to the floor m: the floor, and each row's start above it (proofs/Candidates)
+-- the moments that decide a reclaim to the floor m: the floor, each row's start above it, and the named ones (proofs/Candidates)
 abbrev pub candidates : ℕ → List Branch → List ℕ
 candidates m bs = m ∷ map (λ b. b .start) (keep (λ b. ltb m (b .start)) bs)
+
+abbrev pub deciding : List ℕ → ℕ → List Branch → List ℕ
+deciding named m bs = candidates m bs ++ named
 
 -- n branches follow one another
 pub record Stairs (bs : List Branch) (n : ℕ) : Type 0 where
@@ -100,7 +107,7 @@ Named ps i [] = Unit {0}
 Named ps i (r ∷ rs) = (r .place < length ps) × (getD ps (r .place) 0 ≡ i) × Named ps (suc i) rs
 
 -- the sizes that a store may have
-pub record Allowed (size nb nr np ns : ℕ) : Type 0 where
+pub record Allowed (size nb nr np nn ns : ℕ) : Type 0 where
   pub size-low : 1 ≤ size
   pub size-high : size ≤ 65536
   pub branches-low : 1 ≤ nb
@@ -109,13 +116,18 @@ pub record Allowed (size nb nr np ns : ℕ) : Type 0 where
   pub records-high : nr ≤ 65536
   pub places-low : 1 ≤ np
   pub places-high : np ≤ 65536
+  pub name-rows : nn ≡ 32
   pub slab : ns ≡ 256 * np
 
+abbrev pub AllowedIn : Store → ℕ → Type 0
+AllowedIn s size = Allowed size (length (s .branchRows)) (length (s .recordRows)) (length (s .placeRows)) (length (s .nameRows)) (length (s .slab))
+
 pub record Sizes (s : Store) : Type 0 where
-  pub allowed : Allowed (s .head .size) (length (s .branchRows)) (length (s .recordRows)) (length (s .placeRows)) (length (s .slab))
+  pub allowed : AllowedIn s (s .head .size)
   pub counted-low : 1 ≤ s .head .branches
   pub counted-high : s .head .branches ≤ length (s .branchRows)
   pub records-counted : s .head .records ≤ length (s .recordRows)
+  pub names-counted : s .head .names ≤ 32
   pub floor-now : s .head .floor ≤ s .head .now
   pub now-high : s .head .now ≤ open-end
 
@@ -125,19 +137,37 @@ pub record Fits (size now : ℕ) (bs : List Branch) (r : Record) : Type 0 where
   pub moment : r .moment ≤ now
   pub held : any (λ b. holds b (r .moment)) bs ≡ true
 
+-- a named moment is below now and inside a row
+pub record NameFits (now : ℕ) (bs : List Branch) (n : Name) : Type 0 where
+  pub below : n .moment < now
+  pub held : any (λ b. holds b (n .moment)) bs ≡ true
+
+-- names are different
+abbrev pub Apart : List Name → Type 0
+Apart [] = Unit {0}
+Apart (n ∷ ns) = (any (isCalled (n .high) (n .low)) ns ≡ false) × Apart ns
+
+-- sound names
+pub record SoundNames (now : ℕ) (bs : List Branch) (ns : List Name) : Type 0 where
+  pub apart : Apart ns
+  pub fit : (n : Name) → n ∈ ns → NameFits now bs n
+
 -- a store that passes the table checks, with a now of 32 bits (proofs/Checked, check-sound; back: proofs/Invariant, sound-check)
 pub record Sound (s : Store) : Type 0 where
   pub sizes : Sizes s
   pub rows : SoundRows (s .head .floor) (s .head .now) (newest s)
+  pub names : SoundNames (s .head .now) (newest s) (names s)
   pub ascends : Asc (records s)
   pub fits : (r : Record) → r ∈ records s → Fits (s .head .size) (s .head .now) (newest s) r
   pub named : Named (s .placeRows) 1 (records s)
   pub in-use : used (s .placeRows) ≡ s .head .records
 
--- a request as it is read: its page is whole
+-- a request as it is read: its page is whole, and the numbers of its name have 32 bits
 abbrev pub Whole : Request → Type 0
 Whole (write a page) = length page ≡ 256
 Whole mark = Unit {0}
 Whole (revert m) = Unit {0}
 Whole (readAt a m) = Unit {0}
 Whole (reclaim m) = Unit {0}
+Whole (give n) = (n .high < 4294967296) × (n .low < 4294967296)
+Whole (withdraw high low) = Unit {0}

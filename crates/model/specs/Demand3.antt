@@ -8,10 +8,11 @@ use mathlib.Core.Bool.{Bool, true, false, not}
 use lib.Dec.{eqb}
 use lib.ListN.{length}
 use Rattle.model.specs.declared.Record.{Record}
-use Rattle.model.specs.Store.{Store, records, keep, Page, pageOf, _∈_}
+use Rattle.model.specs.declared.Name.{Name}
+use Rattle.model.specs.Store.{Store, records, names, moments, called, keep, Page, pageOf, _∈_}
 use Rattle.model.specs.Lookup.{isReadable}
 use Rattle.model.specs.Soundness.{ascending, tableCheck}
-use Rattle.model.specs.Wire.{Request, write, mark, revert, readAt, reclaim, requestBytes, Answer, accepted, answerBytes}
+use Rattle.model.specs.Wire.{Request, write, mark, revert, readAt, reclaim, give, withdraw, requestBytes, Answer, accepted, answerBytes}
 use Rattle.model.specs.Step.{step}
 use Rattle.model.specs.Fresh.{freshCheck, madeFresh}
 use Rattle.model.specs.Batch.{Answered, ended, andThen, batch}
@@ -45,9 +46,9 @@ unfoldable pub fed : Reference → List Answered → Reference
 fed p [] = p
 fed p (e ∷ es) = fed (next p e) es
 
--- readable are the moments from the floor to now
+-- readable are the moments from the floor to now, and the named ones
 pub record Readable (p : Reference) (t : ℕ) : Type 0 where
-  pub low : isReadable (p .floor) t ≡ true
+  pub low : isReadable (p .floor) (moments (p .names)) t ≡ true
   pub high : t ≤ p .now
 
 -- the answer that a read gets: the moment asked, and the page of that snapshot if it has one
@@ -61,6 +62,8 @@ Right size p mark x = x .refusal ≡ 0 → x ≡ accepted (p .now)
 Right size p (revert m) x = x .refusal ≡ 0 → x ≡ accepted (p .now)
 Right size p (readAt a m) x = a < size → Readable p m → x ≡ readAnswer m (p .snapshot m a)
 Right size p (reclaim m) x = x .refusal ≡ 0 → x ≡ accepted (length (p .held) - length (keep (isSeen p m) (p .held)))
+Right size p (give n) x = x .refusal ≡ 0 → x ≡ accepted (n .moment)
+Right size p (withdraw high low) x = (n : Name) → called high low (p .names) ≡ some n → x ≡ accepted (n .moment)
 
 abbrev pub AllRight : ℕ → Reference → List Answered → Type 0
 AllRight size p [] = Unit {0}
@@ -72,6 +75,8 @@ acceptedReclaim mark x = false
 acceptedReclaim (revert m) x = false
 acceptedReclaim (readAt a m) x = false
 acceptedReclaim (reclaim m) x = eqb (x .refusal) 0
+acceptedReclaim (give n) x = false
+acceptedReclaim (withdraw high low) x = false
 
 -- whether the last request is an accepted reclaim; b is the answer where there is no request
 unfoldable pub lastReclaims : Bool → List Answered → Bool
@@ -93,6 +98,7 @@ pub record Agrees (size : ℕ) (s : Store) (p : Reference) (es : List Answered) 
   pub volume : s .head .size ≡ size
   pub now : s .head .now ≡ p .now
   pub floor : s .head .floor ≡ p .floor
+  pub names : names s ≡ p .names
   -- the counted records are the held pairs, each once
   pub held : map key (records s) ≡ p .held
   pub once : ascending (records s) ≡ true

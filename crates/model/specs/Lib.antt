@@ -9,3 +9,4 @@ pub mod Reference
 pub mod ByNumber
 pub mod Demand3
 pub mod Packed
+pub mod Commissioned

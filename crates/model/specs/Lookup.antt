@@ -6,7 +6,7 @@ use mathlib.Core.Bool.{Bool, false, cond, _&&_, _||_}
 use lib.Dec.{leb, eqb}
 use Rattle.model.specs.declared.Branch.{Branch}
 use Rattle.model.specs.declared.Record.{Record}
-use Rattle.model.specs.Store.{Store, newest, records, any}
+use Rattle.model.specs.Store.{Store, newest, records, names, moments, any}
 
 -- a branch holds a moment: both ends count
 unfoldable pub holds : Branch → ℕ → Bool
@@ -51,13 +51,16 @@ unfoldable pub anyUpTo : (ℕ → Bool) → ℕ → Bool
 anyUpTo p zero = p zero
 anyUpTo p (suc n) = p (suc n) || anyUpTo p n
 
--- a moment up to now is readable: it is not below the floor
-unfoldable pub isReadable : ℕ → ℕ → Bool
-isReadable floor t = leb floor t
+-- a moment up to now is readable: it is not below the floor, or it is named; named moments are below now
+unfoldable pub isReadable : ℕ → List ℕ → ℕ → Bool
+isReadable floor named t = leb floor t || any (λ m. eqb m t) named
 
--- a store can read a moment up to its now
+-- a store with this floor can read a moment up to its now
+abbrev pub readableFrom : Store → ℕ → ℕ → Bool
+readableFrom s floor = isReadable floor (moments (names s))
+
 abbrev pub readable : Store → ℕ → Bool
-readable s = isReadable (s .head .floor)
+readable s = readableFrom s (s .head .floor)
 
 -- some readable moment up to now passes
 abbrev pub someReadable : (ℕ → Bool) → ℕ → (ℕ → Bool) → Bool
@@ -70,7 +73,7 @@ isAt m none = false
 
 -- some read of a moment that is readable with this floor gives the record
 unfoldable pub isGiven : Store → ℕ → Record → Bool
-isGiven s floor r = someReadable (isReadable floor) (s .head .now) (λ t. isAt (r .moment) (lookup s (r .address) t))
+isGiven s floor r = someReadable (readableFrom s floor) (s .head .now) (λ t. isAt (r .moment) (lookup s (r .address) t))
 
 -- the branch that starts at `start` is in the ancestry of a moment
 unfoldable pub inAncestry : List Branch → ℕ → ℕ → Bool
@@ -78,4 +81,4 @@ inAncestry bs t start = any (λ g. eqb (g .branch .start) start) (ancestry bs t)
 
 -- the branch is in the ancestry of some moment that is readable with this floor
 unfoldable pub isAncestor : Store → ℕ → Branch → Bool
-isAncestor s floor b = someReadable (isReadable floor) (s .head .now) (λ t. inAncestry (newest s) t (b .start))
+isAncestor s floor b = someReadable (readableFrom s floor) (s .head .now) (λ t. inAncestry (newest s) t (b .start))

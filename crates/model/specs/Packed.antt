@@ -7,9 +7,9 @@ use mathlib.Core.Bool.{true, cond}
 use lib.Dec.{ltb}
 use lib.ListN.{length, getD, take, replicate}
 use Rattle.model.specs.declared.Record.{Record}
-use Rattle.model.specs.Store.{Store, branches, records, open-end, _∈_}
-use Rattle.model.specs.Soundness.{sizesAllowed, tableCheck}
-use Rattle.model.specs.Wire.{Request, write, mark, revert, readAt, reclaim}
+use Rattle.model.specs.Store.{Store, branches, records, names, open-end, _∈_}
+use Rattle.model.specs.Soundness.{lentAllowed, tableCheck}
+use Rattle.model.specs.Wire.{Request, write, mark, revert, readAt, reclaim, give, withdraw}
 use Rattle.model.specs.Step.{Stepped, step}
 use Rattle.model.specs.Fresh.{freshCheck, madeFresh}
 use Rattle.model.specs.Batch.{Answered}
@@ -29,6 +29,8 @@ PutIn s mark r = ⊥
 PutIn s (revert m) r = ⊥
 PutIn s (readAt a m) r = ⊥
 PutIn s (reclaim m) r = ⊥
+PutIn s (give n) r = ⊥
+PutIn s (withdraw high low) r = ⊥
 
 -- what a request left of a store: a record was there before, in the same place, or is the one put in; 6 only where no place is free
 pub record Packs (s : Store) (q : Request) (st : Stepped) : Type 0 where
@@ -64,10 +66,11 @@ StaysPacked =
 -- a copy over tables as large or larger: head and counted rows are the same, place rows behind are free, and of the slab the bytes in
 -- use are the same
 pub record Copy (s c : Store) : Type 0 where
-  pub allowed : sizesAllowed (c .head .size) (length (c .branchRows)) (length (c .recordRows)) (length (c .placeRows)) (length (c .slab)) ≡ true
+  pub allowed : lentAllowed c (c .head .size) ≡ true
   pub head : c .head ≡ s .head
   pub branches : branches c ≡ branches s
   pub records : records c ≡ records s
+  pub names : names c ≡ names s
   pub more : ℕ
   pub places : c .placeRows ≡ s .placeRows ++ replicate more 0
   pub slab : take (slabInUse s) (c .slab) ≡ take (slabInUse s) (s .slab)

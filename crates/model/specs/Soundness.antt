@@ -6,29 +6,33 @@ use lib.Dec.{leb, ltb, eqb}
 use lib.ListN.{length, getD}
 use Rattle.model.specs.declared.Branch.{Branch}
 use Rattle.model.specs.declared.Record.{Record}
-use Rattle.model.specs.Store.{Store, newest, records, any, keep, open-end}
+use Rattle.model.specs.declared.Name.{Name}
+use Rattle.model.specs.Store.{Store, newest, records, names, isCalled, any, keep, open-end}
 use Rattle.model.specs.Lookup.{holds}
 
 abbrev pub between : ℕ → ℕ → ℕ → Bool
 between lo hi n = leb lo n && leb n hi
 
--- the volume size A, the rows of the three tables and the bytes of the slab are in their ranges
-unfoldable pub sizesAllowed : ℕ → ℕ → ℕ → ℕ → ℕ → Bool
-sizesAllowed size branchRows recordRows placeRows slabBytes =
+-- the volume size A, the rows of the four tables and the bytes of the slab are in their ranges; of name rows 32 are lent
+unfoldable pub sizesAllowed : ℕ → ℕ → ℕ → ℕ → ℕ → ℕ → Bool
+sizesAllowed size branchRows recordRows placeRows nameRows slabBytes =
     between 1 65536 size && (between 1 4096 branchRows && (between 1 65536 recordRows
-    && (between 1 65536 placeRows && eqb slabBytes (256 * placeRows))))
+    && (between 1 65536 placeRows && (eqb nameRows 32 && eqb slabBytes (256 * placeRows)))))
 
--- the branch count is 1 to the rows lent, the record count 0 to the rows lent, and the floor is at most now
+-- the sizes of what is lent, with this volume size
+abbrev pub lentAllowed : Store → ℕ → Bool
+lentAllowed s size =
+    sizesAllowed size (length (s .branchRows)) (length (s .recordRows)) (length (s .placeRows)) (length (s .nameRows)) (length (s .slab))
+
+-- the branch count is 1 to the rows lent, the record count 0 to the rows lent, at most 32 names are held, and the floor is at most now
 abbrev pub countsAllowed : Store → Bool
 countsAllowed s =
     between 1 (length (s .branchRows)) (s .head .branches) && (leb (s .head .records) (length (s .recordRows))
-    && leb (s .head .floor) (s .head .now))
+    && (leb (s .head .names) 32 && leb (s .head .floor) (s .head .now)))
 
 -- check 1: head, counts and lengths
 unfoldable pub inRange : Store → Bool
-inRange s =
-    sizesAllowed (s .head .size) (length (s .branchRows)) (length (s .recordRows)) (length (s .placeRows)) (length (s .slab))
-    && countsAllowed s
+inRange s = lentAllowed s (s .head .size) && countsAllowed s
 
 -- the first row, then each row against those before it; rows stand newest first.
 -- start at most end, above the end before it, following it by one or at most the floor; the cut inside an earlier row, the parent
@@ -44,9 +48,19 @@ abbrev pub openRow : ℕ → List Branch → Bool
 openRow now [] = false
 openRow now (b ∷ earlier) = eqb (b .end) open-end && leb (b .start) now
 
--- check 2: branch rows
+-- the branch rows of check 2
 unfoldable pub branchesSound : Store → Bool
 branchesSound s = openRow (s .head .now) (newest s) && chained (s .head .floor) (newest s)
+
+-- the names of check 2: different, and each named moment below now and inside a counted branch row
+unfoldable pub namesSound : ℕ → List Branch → List Name → Bool
+namesSound now bs [] = true
+namesSound now bs (n ∷ ns) =
+    not (any (isCalled (n .high) (n .low)) ns) && (ltb (n .moment) now && (any (λ b. holds b (n .moment)) bs && namesSound now bs ns))
+
+-- check 2: branch rows and names
+unfoldable pub rowsSound : Store → Bool
+rowsSound s = branchesSound s && namesSound (s .head .now) (newest s) (names s)
 
 -- ascending by address, then moment
 unfoldable pub precedes : Record → Record → Bool
@@ -79,4 +93,4 @@ recordsSound s = ascending (records s) && (placed s 1 (records s) && eqb (used (
 
 -- the refusal of the table checks, 0 where there is none
 unfoldable pub tableCheck : Store → ℕ
-tableCheck s = cond (inRange s) (cond (branchesSound s) (cond (recordsSound s) 0 3) 2) 1
+tableCheck s = cond (inRange s) (cond (rowsSound s) (cond (recordsSound s) 0 3) 2) 1

@@ -1,4 +1,4 @@
--- What each of the five requests does to a store, with its refusals in their order.
+-- What each of the seven requests does to a store, with its refusals in their order.
 use Prim.Native.Nat.{ℕ, zero, suc, _+_, _-_}
 use mathlib.Core.List.{List, [], _∷_, _++_, map}
 use mathlib.Core.Option.{Option, some, none, Option·map}
@@ -7,11 +7,12 @@ use lib.Dec.{leb, ltb}
 use lib.ListN.{length, take, drop, getD, set, replicate}
 use Rattle.model.specs.declared.Branch.{Branch}
 use Rattle.model.specs.declared.Record.{Record}
+use Rattle.model.specs.declared.Name.{Name}
 use Rattle.model.specs.declared.Head.{Head}
-use Rattle.model.specs.Store.{Store, branches, records, keep, open-end, zero-branch, zero-record, withPage, foundPage}
+use Rattle.model.specs.Store.{Store, branches, records, names, isCalled, called, without, keep, any, open-end, zero-branch, zero-record, zero-name, withPage, foundPage}
 use Rattle.model.specs.Lookup.{lookup, latest, readable, isGiven, isAncestor}
 use Rattle.model.specs.Soundness.{precedes}
-use Rattle.model.specs.Wire.{Request, write, mark, revert, readAt, reclaim, Answer, refused, accepted}
+use Rattle.model.specs.Wire.{Request, write, mark, revert, readAt, reclaim, give, withdraw, Answer, refused, accepted}
 
 -- the store after a request, and the answer
 pub record Stepped : Type 0 where
@@ -24,15 +25,15 @@ unchanged s n = record { store = s; answer = refused n }
 
 -- the head with other counts, now and floor
 abbrev pub headWith : Head → ℕ → ℕ → ℕ → ℕ → Head
-headWith h bs rs now floor = record { size = h .size; branches = bs; records = rs; now = now; floor = floor }
+headWith h bs rs now floor = record { size = h .size; branches = bs; records = rs; now = now; floor = floor; names = h .names }
 
 abbrev pub withHead : Store → Head → Store
 withHead s h =
-    record { head = h; branchRows = s .branchRows; recordRows = s .recordRows; placeRows = s .placeRows; slab = s .slab }
+    record { head = h; branchRows = s .branchRows; recordRows = s .recordRows; placeRows = s .placeRows; nameRows = s .nameRows; slab = s .slab }
 
 abbrev pub withSlab : Store → List ℕ → Store
 withSlab s sl =
-    record { head = s .head; branchRows = s .branchRows; recordRows = s .recordRows; placeRows = s .placeRows; slab = sl }
+    record { head = s .head; branchRows = s .branchRows; recordRows = s .recordRows; placeRows = s .placeRows; nameRows = s .nameRows; slab = sl }
 
 -- the record at (address, now), which a write overwrites
 abbrev pub standing : Store → ℕ → Option Record
@@ -65,6 +66,7 @@ inserted s r page at =
       branchRows = s .branchRows;
       recordRows = putIn at r (records s) ++ drop (s .head .records + 1) (s .recordRows);
       placeRows = set (map (shifted at) (s .placeRows)) (r .place) (suc at);
+      nameRows = s .nameRows;
       slab = withPage (s .slab) (r .place) page;
     }
 
@@ -109,6 +111,7 @@ branched s m =
           (record { start = s .head .now + 1; end = open-end; cut = m });
       recordRows = s .recordRows;
       placeRows = s .placeRows;
+      nameRows = s .nameRows;
       slab = s .slab;
     }
 
@@ -147,6 +150,7 @@ reclaimed s floor bs rs =
       branchRows = closedUp zero-branch bs (s .head .branches) (s .branchRows);
       recordRows = closedUp zero-record rs (s .head .records) (s .recordRows);
       placeRows = map (renumbered (isGiven s floor) (records s)) (s .placeRows);
+      nameRows = s .nameRows;
       slab = s .slab;
     }
 
@@ -160,9 +164,51 @@ doReclaim s m =
       answer = accepted (s .head .records - length rs);
     }))
 
+-- the store with another count of names, and these name rows
+abbrev pub withNames : Store → ℕ → List Name → Store
+withNames s count rows =
+    record {
+      head =
+          record {
+            size = s .head .size;
+            branches = s .head .branches;
+            records = s .head .records;
+            now = s .head .now;
+            floor = s .head .floor;
+            names = count;
+          };
+      branchRows = s .branchRows;
+      recordRows = s .recordRows;
+      placeRows = s .placeRows;
+      nameRows = rows;
+      slab = s .slab;
+    }
+
+-- a name for a sealed, readable moment, behind those given before; 15 where the name is in use, 16 where all 32 are given
+unfoldable pub doGive : Store → Name → Stepped
+doGive s n =
+    cond (readable s (n .moment))
+    (cond (leb (s .head .now) (n .moment)) (unchanged s 9)
+    (cond (any (isCalled (n .high) (n .low)) (names s)) (unchanged s 15)
+    (cond (leb 32 (s .head .names)) (unchanged s 16)
+    (record { store = withNames s (s .head .names + 1) (set (s .nameRows) (s .head .names) n); answer = accepted (n .moment) }))))
+    (unchanged s 8)
+
+-- the row that has the name goes: later ones close up, and the vacated row becomes zero; 17 where no row has it
+abbrev pub withdrawn : Store → ℕ → ℕ → Option Name → Stepped
+withdrawn s high low none = unchanged s 17
+withdrawn s high low (some n) =
+    let ns = without high low (names s) in
+    record { store = withNames s (length ns) (closedUp zero-name ns (s .head .names) (s .nameRows)); answer = accepted (n .moment) }
+
+unfoldable pub doWithdraw : Store → ℕ → ℕ → Stepped
+doWithdraw s high low = withdrawn s high low (called high low (names s))
+
 unfoldable pub step : Store → Request → Stepped
 step s (write a page) = doWrite s a page
 step s mark = doMark s
 step s (revert m) = doRevert s m
 step s (readAt a m) = doRead s a m
 step s (reclaim m) = doReclaim s m
+step s (give n) = doGive s n
+step s (withdraw high low) = doWithdraw s high low

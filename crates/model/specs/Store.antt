@@ -2,12 +2,14 @@
 use Prim.Native.Nat.{ℕ, _+_, _*_}
 use mathlib.Core.Path.{_≡_}
 use mathlib.Core.Logic.{_⊎_}
-use mathlib.Core.List.{List, [], _∷_, _++_, reverse}
-use mathlib.Core.Option.{Option, Option·map}
-use mathlib.Core.Bool.{Bool, true, false, cond}
+use mathlib.Core.List.{List, [], _∷_, _++_, map, reverse}
+use mathlib.Core.Option.{Option, some, none, Option·map}
+use mathlib.Core.Bool.{Bool, true, false, cond, _&&_, not}
+use lib.Dec.{eqb}
 use lib.ListN.{take, drop}
 use Rattle.model.specs.declared.Branch.{Branch}
 use Rattle.model.specs.declared.Record.{Record}
+use Rattle.model.specs.declared.Name.{Name}
 use Rattle.model.specs.declared.Head.{Head}
 
 -- the largest number of 32 bits: the end of a branch that is still open
@@ -20,12 +22,16 @@ zero-branch = record { start = 0; end = 0; cut = 0 }
 abbrev pub zero-record : Record
 zero-record = record { address = 0; moment = 0; place = 0 }
 
+abbrev pub zero-name : Name
+zero-name = record { high = 0; low = 0; moment = 0 }
+
 -- a store as it is lent: every row lent, the counted ones first
 pub record Store : Type 0 where
   pub head : Head
   pub branchRows : List Branch
   pub recordRows : List Record
   pub placeRows : List ℕ
+  pub nameRows : List Name
   pub slab : List ℕ
 
 -- the counted branch rows, oldest first
@@ -39,6 +45,14 @@ newest s = reverse (branches s)
 -- the counted record rows
 unfoldable pub records : Store → List Record
 records s = take (s .head .records) (s .recordRows)
+
+-- the counted name rows, in the order given
+unfoldable pub names : Store → List Name
+names s = take (s .head .names) (s .nameRows)
+
+-- the moments that names stand for
+abbrev pub moments : List Name → List ℕ
+moments = map (λ n. n .moment)
 
 -- a page with the moment of its write
 pub record Page : Type 0 where
@@ -76,3 +90,16 @@ keep p (x ∷ xs) = cond (p x) (x ∷ keep p xs) (keep p xs)
 unfoldable pub any : {A : Type 0} → (A → Bool) → List A → Bool
 any p [] = false
 any p (x ∷ xs) = cond (p x) true (any p xs)
+
+-- a row has the name whose 8 bytes are these two numbers
+unfoldable pub isCalled : ℕ → ℕ → Name → Bool
+isCalled high low n = eqb (n .high) high && eqb (n .low) low
+
+-- the row that has a name
+unfoldable pub called : ℕ → ℕ → List Name → Option Name
+called high low [] = none
+called high low (n ∷ ns) = cond (isCalled high low n) (some n) (called high low ns)
+
+-- the rows that have another name, in order
+abbrev pub without : ℕ → ℕ → List Name → List Name
+without high low = keep (λ n. not (isCalled high low n))

@@ -5,6 +5,7 @@ use mathlib.Core.Option.{Option, some, none}
 use mathlib.Core.Bool.{cond, _&&_}
 use lib.Dec.{leb, eqb}
 use lib.ListN.{length, take, drop}
+use Rattle.model.specs.declared.Name.{Name}
 use Rattle.model.specs.Store.{Page}
 
 -- the number that bytes spell after n, most significant first
@@ -31,13 +32,15 @@ packed n (f ∷ fs) = packed (n * 2 ^ f .width + f .value) fs
 abbrev pub field : ℕ → ℕ → ℕ → ℕ
 field n below width = n / 2 ^ below % 2 ^ width
 
--- the five requests
+-- the seven requests; a name is given by the row that it gets, and withdrawn by its two numbers
 pub data Request : Type 0 where
   write : ℕ → List ℕ → Request
   mark : Request
   revert : ℕ → Request
   readAt : ℕ → ℕ → Request
   reclaim : ℕ → Request
+  give : Name → Request
+  withdraw : ℕ → ℕ → Request
 
 -- the seven bytes of a request: operation 3 bits, address 16, moment 32, spare 5
 abbrev pub requestHead : ℕ → ℕ → ℕ → ℕ → List ℕ
@@ -47,13 +50,19 @@ requestHead operation address moment spare =
     (record { width = 3; value = operation } ∷ record { width = 16; value = address } ∷ record { width = 32; value = moment }
     ∷ record { width = 5; value = spare } ∷ []))
 
--- a request as it is sent: fields that an operation does not use are zero; a write's page follows
+-- the 8 bytes of a name: its two numbers, 32 bits each
+unfoldable pub nameBytes : ℕ → ℕ → List ℕ
+nameBytes high low = bytes 8 (packed 0 (record { width = 32; value = high } ∷ record { width = 32; value = low } ∷ []))
+
+-- a request as it is sent: fields that an operation does not use are zero; a write's page follows, and a name
 unfoldable pub requestBytes : Request → List ℕ
 requestBytes (write a page) = requestHead 1 a 0 0 ++ page
 requestBytes mark = requestHead 2 0 0 0
 requestBytes (revert m) = requestHead 3 0 m 0
 requestBytes (readAt a m) = requestHead 4 a m 0
 requestBytes (reclaim m) = requestHead 5 0 m 0
+requestBytes (give n) = requestHead 6 0 (n .moment) 0 ++ nameBytes (n .high) (n .low)
+requestBytes (withdraw high low) = requestHead 7 0 0 0 ++ nameBytes high low
 
 -- what is read at the front of an input: its end, a stop with its number, or a request with its length in bytes
 pub data Parsed : Type 0 where
@@ -65,6 +74,17 @@ pub data Parsed : Type 0 where
 abbrev pub writeOf : ℕ → List ℕ → Parsed
 writeOf a rest = cond (leb 256 (length rest)) (one (write a (take 256 rest)) 263) (stop 11)
 
+-- the two numbers of the name in what follows the seven bytes
+unfoldable pub highOf : List ℕ → ℕ
+highOf rest = field (number 0 (take 8 rest)) 32 32
+
+unfoldable pub lowOf : List ℕ → ℕ
+lowOf rest = field (number 0 (take 8 rest)) 0 32
+
+-- a request that the 8 bytes of a name follow, 11 where they are cut short
+abbrev pub namedOf : Request → List ℕ → Parsed
+namedOf q rest = cond (leb 8 (length rest)) (one q 15) (stop 11)
+
 -- the request of an operation, 12 where there is none; a field that it does not use counts as spare, 13 where one is set
 unfoldable pub byOperation : ℕ → ℕ → ℕ → ℕ → List ℕ → Parsed
 byOperation o a m spare rest =
@@ -73,7 +93,9 @@ byOperation o a m spare rest =
     (cond (eqb o 3) (cond (eqb a 0 && eqb spare 0) (one (revert m) 7) (stop 13))
     (cond (eqb o 4) (cond (eqb spare 0) (one (readAt a m) 7) (stop 13))
     (cond (eqb o 5) (cond (eqb a 0 && eqb spare 0) (one (reclaim m) 7) (stop 13))
-    (stop 12)))))
+    (cond (eqb o 6) (cond (eqb a 0 && eqb spare 0) (namedOf (give (record { high = highOf rest; low = lowOf rest; moment = m })) rest) (stop 13))
+    (cond (eqb o 7) (cond (eqb a 0 && (eqb m 0 && eqb spare 0)) (namedOf (withdraw (highOf rest) (lowOf rest)) rest) (stop 13))
+    (stop 12)))))))
 
 -- by the fields of the 56 bits
 abbrev pub ofWord : ℕ → List ℕ → Parsed

@@ -15,10 +15,18 @@ pub struct Record {
     pub place: u32,
 }
 
+// A name of 8 bytes, as two numbers of 4, and the moment that it stands for.
+pub struct Name {
+    pub high: u32,
+    pub low: u32,
+    pub moment: u32,
+}
+
 pub struct Head {
     pub size: u32,
     pub branches: u32,
     pub records: u32,
     pub now: u32,
     pub floor: u32,
+    pub names: u32,
 }

@@ -32,6 +32,7 @@ module _ {t : Tables} (l : TableLengths t) where
       (record {
         branches = omega (arith, l .branches);
         records = omega (arith, l .records);
+        names = omega (arith, l .names);
         allowed =
             record {
               size-low = omega arith;
@@ -42,6 +43,7 @@ module _ {t : Tables} (l : TableLengths t) where
               records-high = omega (arith, l .records);
               places-low = omega (arith, l .places);
               places-high = omega (arith, l .places);
+              name-rows = omega (arith, l .names);
               slab = omega (arith, l .places, l .slab);
             };
       })
@@ -54,7 +56,7 @@ module _ {t : Tables} (l : TableLengths t) where
     started = store-made f k ∙ made-program head
 
     whole : wholeTables t′ ≡ true
-    whole = →whole t′ (record { branches = omega (arith, k .branches, l .branches); records = omega (arith, k .records, l .records) })
+    whole = →whole t′ (record { branches = omega (arith, k .branches, l .branches); records = omega (arith, k .records, l .records); names = omega (arith, k .names, l .names) })
 
     run-is : (input : List ℕ) (space : ℕ) → batchOf (r .head) t′ input space ≡ batch (programStore (t .slab)) input space
     unfolding batchOf

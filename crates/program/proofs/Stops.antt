@@ -6,7 +6,7 @@ use native.Mathlib.Omega.{arith}
 use lib.Dec.{ltb}
 use lib.ListN.{length, drop}
 use Rattle.model.specs.Store.{Store}
-use Rattle.model.specs.Soundness.{inRange, branchesSound, recordsSound, tableCheck}
+use Rattle.model.specs.Soundness.{inRange, rowsSound, recordsSound, tableCheck}
 use Rattle.model.specs.Wire.{stop, parse, answerBytes}
 use Rattle.model.specs.Step.{step}
 use Rattle.model.specs.Batch.{run, batch}
@@ -19,7 +19,7 @@ unfolding tableCheck
 check-small s =
     case (inRange s)
     (λ a.
-    case (branchesSound s)
+    case (rowsSound s)
     (λ b. case (recordsSound s) (λ c. rw (a, b, c) (omega arith)) (λ c. rw (a, b, c) (omega arith)))
     (λ b. rw (a, b) (omega arith)))
     (λ a. rw a (omega arith))

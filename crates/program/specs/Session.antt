@@ -6,15 +6,16 @@ use lib.ListN.{length, drop}
 use Rattle.model.specs.Store.{Store}
 use Rattle.model.specs.Fresh.{programStore}
 use Rattle.model.specs.Batch.{Run, batch, answerCount, areaAfter}
-use Rattle.rows.specs.Rows.{zeros, branchWidth, recordWidth}
+use Rattle.rows.specs.Rows.{zeros, branchWidth, recordWidth, nameWidth}
 use Rattle.rows.specs.View.{Tables}
 use Rattle.program.specs.declared.Reply.{Reply}
 
--- the numbers of the program's tables, and the bytes of its slab: 16 branches, 128 records, 128 places
+-- the numbers of the program's tables, and the bytes of its slab: 16 branches, 128 records, 128 places, 32 names
 pub record TableLengths (t : Tables) : Type 0 where
   pub branches : length (t .branches) ≡ 16 * branchWidth
   pub records : length (t .records) ≡ 128 * recordWidth
   pub places : length (t .places) ≡ 128
+  pub names : length (t .names) ≡ 32 * nameWidth
   pub slab : length (t .slab) ≡ 128 * 256
 
 -- the store that a session starts with

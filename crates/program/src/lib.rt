@@ -12,10 +12,12 @@ ghost use Rattle.rows.specs.View.{tables};
 ghost use Rattle.batch.specs.Batch.{BatchLeaves};
 ghost use Rattle.program.specs.Session.{TableLengths, atStart, Sends, SessionLeaves, SomeSession};
 
-// The program's tables: 16 branches, 128 records, 128 places.
+// The program's tables: 16 branches, 128 records, 128 places, 32 names.
 const BRANCH_NUMBERS: usize = 16 * rows::BRANCH_WIDTH;
 
 const RECORD_NUMBERS: usize = 128 * rows::RECORD_WIDTH;
+
+const NAME_NUMBERS: usize = 32 * rows::NAME_WIDTH;
 
 const SLAB_BYTES: usize = 128 * 256;
 
@@ -51,12 +53,13 @@ fn serve_fresh(
     bt: &mut [u32],
     rt: &mut [u32],
     pt: &mut [u32],
+    nt: &mut [u32],
     slab: &mut [u8],
     input: &[u8],
     answers: &mut [u8],
 ) -> Done
-    requires { ⌜ TableLengths (tables (now bt) (now rt) (now pt) (now slab)) ⌝ }
-    ensures { λ r. ⌜ BatchLeaves (batch (programStore (now (slab .entry))) (now (input .entry)) (length (now (answers .entry)))) (tables (now (bt .entry)) (now (rt .entry)) (now (pt .entry)) (now (slab .entry))) (now (answers .entry)) r (tables (now (bt .exit)) (now (rt .exit)) (now (pt .exit)) (now (slab .exit))) (now (answers .exit)) ⌝ }
+    requires { ⌜ TableLengths (tables (now bt) (now rt) (now pt) (now nt) (now slab)) ⌝ }
+    ensures { λ r. ⌜ BatchLeaves (batch (programStore (now (slab .entry))) (now (input .entry)) (length (now (answers .entry)))) (tables (now (bt .entry)) (now (rt .entry)) (now (pt .entry)) (now (nt .entry)) (now (slab .entry))) (now (answers .entry)) r (tables (now (bt .exit)) (now (rt .exit)) (now (pt .exit)) (now (nt .exit)) (now (slab .exit))) (now (answers .exit)) ⌝ }
 {
     let none = Head {
         size: 0,
@@ -64,10 +67,11 @@ fn serve_fresh(
         records: 0,
         now: 0,
         floor: 0,
+        names: 0,
     };
-    let made = fresh::make(none, 64, bt, rt, pt, slab);
+    let made = fresh::make(none, 64, bt, rt, pt, nt, slab);
     let head = made.head;
-    batch::batch(head, bt, rt, pt, slab, input, answers)
+    batch::batch(head, bt, rt, pt, nt, slab, input, answers)
 }
 
 // What goes out: how many bytes the answers have, and the stop number.
@@ -83,11 +87,13 @@ fn serve(input: &[u8], answers: &mut [u8]) -> Reply
     let mut branches = branch_rows();
     let mut records = record_rows();
     let mut places = [0; 128];
+    let mut names = [0; NAME_NUMBERS];
     let mut slab = page_slab();
     let done = serve_fresh(
         &mut branches,
         &mut records,
         &mut places,
+        &mut names,
         &mut slab,
         input,
         answers,

@@ -10,37 +10,41 @@ use lib.Seq.{getD-take, length-take-le}
 use borrow.Author.Tests.{lt-ltb, le-ltb}
 use Rattle.model.specs.declared.Branch.{Branch}
 use Rattle.model.specs.declared.Record.{Record}
+use Rattle.model.specs.declared.Name.{Name}
 use Rattle.model.specs.declared.Head.{Head}
-use Rattle.model.specs.Store.{Store, branches, newest, records, keep, zero-branch, zero-record, _∈_}
+use Rattle.model.specs.Store.{Store, branches, newest, records, names, moments, keep, zero-branch, zero-record, _∈_}
 use Rattle.model.specs.Lookup.{lookup, isGiven, isAncestor}
 use Rattle.model.specs.Wire.{reclaim, accepted}
 use Rattle.model.specs.Step.{renumbered, reclaimed, doReclaim, step}
-use Rattle.model.specs.ByNumber.{SoundRows, Asc, Named, Sizes, Sound, branch, newestOf, candidates, held, Line, entry, Ascend, Names}
-use Rattle.model.proofs.Candidates.{ancestor-candidates, given-candidates}
-use Rattle.rows.specs.Rows.{branchWidth, branchRowsOf, recordWidth, recordRowsOf, BranchesIn, RecordsIn}
-use Rattle.rows.proofs.Laws.{branch-kind, record-kind, record-count, branch-count}
+use Rattle.model.specs.ByNumber.{SoundRows, Asc, Named, Sizes, Sound, branch, newestOf, deciding, held, Line, entry, Ascend, Names}
+use Rattle.model.proofs.Candidates.{ancestor-deciding, given-deciding}
+use Rattle.rows.specs.Rows.{branchWidth, branchRowsOf, recordWidth, recordRowsOf, nameWidth, nameRowsOf, BranchesIn, RecordsIn, NamesIn}
+use Rattle.rows.proofs.Laws.{branch-kind, record-kind, name-kind, record-count, branch-count, name-count}
 use Rattle.model.proofs.ByNumber.{rows-line, held-by, asc-ascend, names-of}
-use Rattle.model.proofs.Base.{getD-mem}
-use Rattle.branch_marks.specs.Marks.{Filled, bit, wanted, keptBranch}
+use Rattle.model.proofs.Base.{getD-mem, map-mem}
+use Rattle.branch_marks.specs.Marks.{Filled, Held, bit, wanted, keptBranch}
 use Rattle.record_marks.specs.Marks.{Placed}
 use Rattle.deciding.specs.Deciding.{given, keptRecord}
 use Rattle.closing.specs.Closed.{marked, keepBy, renamed, ClosedRecords, ClosedBranches}
-use Rattle.rows.specs.View.{Tables, withBranches, withRecords, withPlaces, storeOf, recordGiven, Carried, refusedWith}
+use Rattle.rows.specs.View.{Tables, withBranches, withRecords, withPlaces, withNames, storeOf, recordGiven, Carried, refusedWith}
 use Rattle.reclaim.specs.Reclaimable.{Reclaimable}
-use Rattle.rows.proofs.Relaid.{laid-rows}
+use Rattle.rows.proofs.Relaid.{laid-own, laid-rows}
 use Rattle.rows.proofs.View.{within-own, carried}
 use Rattle.rows.specs.declared.Found.the-variants.{Nothing}
 use Rattle.closing.proofs.Closing.{keepBy-keep, renamed-numbered}
 
 -- what a reclaim to a readable moment has at hand
-pub record Ready (h : Head) (m : ℕ) (bt rt pt : List ℕ) : Type 0 where
+pub record Ready (h : Head) (m : ℕ) (bt rt pt nt : List ℕ) : Type 0 where
   pub branch-room : BranchesIn (h .branches) bt
   pub branch-count : h .branches ≤ 4096
   pub branch-some : 0 < h .branches
   pub record-room : RecordsIn (h .records) rt
   pub record-count : h .records ≤ 65536
+  pub name-room : NamesIn (h .names) nt
+  pub name-count : h .names ≤ 32
   pub line : Line (branchRowsOf bt) (h .branches)
   pub readable : held (branchRowsOf bt) (h .branches) m ≡ true
+  pub named-held : Held (branchRowsOf bt) (h .branches) (moments (take (h .names) (nameRowsOf nt)))
   pub ascend : Ascend (recordRowsOf rt) (h .records)
   pub placed : Placed (branchRowsOf bt) (h .branches) (recordRowsOf rt) (h .records)
   pub names : Names (recordRowsOf rt) (h .records) pt
@@ -58,6 +62,10 @@ module _ (h : Head) (t : Tables) where
   abbrev pt : List ℕ
   pt = t .places
 
+  -- the named moments
+  abbrev ms : List ℕ
+  ms = moments (take (h .names) (nameRowsOf (t .names)))
+
   newest-rows : newest s ≡ newestOf bs (h .branches)
   unfolding newest branches
   newest-rows = refl
@@ -65,6 +73,10 @@ module _ (h : Head) (t : Tables) where
   records-rows : records s ≡ take (h .records) rs
   unfolding records
   records-rows = refl
+
+  names-rows : names s ≡ take (h .names) (nameRowsOf (t .names))
+  unfolding names
+  names-rows = refl
 
   module _ (m : ℕ) (sd : Sound s) (l : h .floor ≤ m) (u : m ≤ h .now) where
     rows-room : h .branches ≤ length bs
@@ -90,38 +102,48 @@ module _ (h : Head) (t : Tables) where
         let i : entry rs k ∈ take (h .records) rs = rw e at (getD-mem (take (h .records) rs) k zero-record (rw n b)) in
         rw newest-rows at (sd .fits (entry rs k) (rw records-rows i) .held)
 
-    pub ready-of : Ready h m (t .branches) (t .records) pt
+    moment-held : (x : ℕ) → x ∈ ms → held bs (h .branches) x ≡ true
+    unfolding held
+    moment-held x i =
+        let r : (n : Name) × (n ∈ take (h .names) (nameRowsOf (t .names))) × (x ≡ n .moment) = map-mem (λ (n : Name). n .moment) x (take (h .names) (nameRowsOf (t .names))) i in
+        rw (r .2) (rw newest-rows at (sd .names .fit (r .0) (rw names-rows (r .1)) .held))
+
+    pub ready-of : Ready h m (t .branches) (t .records) pt (t .names)
     ready-of =
         let z : Sizes s = sd .sizes in
         let lb : length bs ≡ length (t .branches) / branchWidth = branch-count (t .branches) in
         let lr : length rs ≡ length (t .records) / recordWidth = record-count (t .records) in
+        let ln : length (nameRowsOf (t .names)) ≡ length (t .names) / nameWidth = name-count (t .names) in
         record {
           branch-room = omega arith;
           branch-count = omega arith;
           branch-some = omega arith;
           record-room = omega arith;
           record-count = omega arith;
+          name-room = omega arith;
+          name-count = omega arith;
           line = rows-line (h .floor) (h .now) bs (h .branches) rows-room sound-rows;
           readable = held-by (h .floor) (h .now) m bs (h .branches) sound-rows (z .now-high) l u;
+          named-held = record { each = moment-held };
           ascend = asc-ascend rs (h .records) records-room sound-asc;
           placed = record { each = record-held };
           names = names-of rs (h .records) pt records-room sound-named (sd .in-use);
         }
 
     -- the marks are the model's tests
-    wanted-ancestor : (b : Branch) → wanted bs (h .branches) (candidates m (newestOf bs (h .branches))) (b .start) ≡ isAncestor s m b
+    wanted-ancestor : (b : Branch) → wanted bs (h .branches) (deciding ms m (newestOf bs (h .branches))) (b .start) ≡ isAncestor s m b
     unfolding wanted
-    wanted-ancestor b = sym (rw newest-rows at (ancestor-candidates s m sd l u b))
+    wanted-ancestor b = sym (rw (newest-rows, names-rows) at (ancestor-deciding s m sd l u b))
 
-    given-read : (r : Record) → r ∈ take (h .records) rs → given bs (h .branches) (take (h .records) rs) m r ≡ isGiven s m r
-    unfolding given lookup newest branches records
-    given-read r i = sym (given-candidates s m sd l u r i)
+    given-read : (r : Record) → r ∈ take (h .records) rs → given bs (h .branches) (take (h .records) rs) m ms r ≡ isGiven s m r
+    unfolding given lookup newest branches records names
+    given-read r i = sym (given-deciding s m sd l u r i)
 
     bit-test : (b : Bool) → eqb (bit b) 1 ≡ b
     bit-test true = refl
     bit-test false = refl
 
-    module _ {old bm : List ℕ} (f : Filled (keptBranch bs (h .branches) (candidates m (newestOf bs (h .branches)))) (h .branches) old bm) where
+    module _ {old bm : List ℕ} (f : Filled (keptBranch bs (h .branches) (deciding ms m (newestOf bs (h .branches)))) (h .branches) old bm) where
       pub keep-branches : keepBy (marked bm) (take (h .branches) bs) ≡ keep (isAncestor s m) (take (h .branches) bs)
       keep-branches =
           let n : length (take (h .branches) bs) ≡ h .branches = length-take-le (h .branches) bs rows-room in
@@ -129,18 +151,18 @@ module _ (h : Head) (t : Tables) where
           (λ i a.
           let b : i < h .branches = rw n at a in
           ap (λ (x : ℕ). eqb x 1) (f .first i b)
-          ∙ bit-test (wanted bs (h .branches) (candidates m (newestOf bs (h .branches))) (branch bs i .start))
+          ∙ bit-test (wanted bs (h .branches) (deciding ms m (newestOf bs (h .branches))) (branch bs i .start))
           ∙ wanted-ancestor (branch bs i)
           ∙ ap (isAncestor s m) (sym (getD-take (h .branches) bs i zero-branch b)))
 
-    module _ {old rm : List ℕ} (f : Filled (keptRecord bs (h .branches) rs (h .records) m) (h .records) old rm) where
+    module _ {old rm : List ℕ} (f : Filled (keptRecord bs (h .branches) rs (h .records) m ms) (h .records) old rm) where
       mark-test : (i : ℕ) → i < h .records → marked rm i ≡ isGiven s m (getD (take (h .records) rs) i zero-record)
       mark-test i b =
           let n : length (take (h .records) rs) ≡ h .records = length-take-le (h .records) rs records-room in
           let e : getD (take (h .records) rs) i zero-record ≡ entry rs i = getD-take (h .records) rs i zero-record b in
           let k : entry rs i ∈ take (h .records) rs = rw e at (getD-mem (take (h .records) rs) i zero-record (rw n b)) in
           ap (λ (x : ℕ). eqb x 1) (f .first i b)
-          ∙ bit-test (given bs (h .branches) (take (h .records) rs) m (entry rs i))
+          ∙ bit-test (given bs (h .branches) (take (h .records) rs) m ms (entry rs i))
           ∙ given-read (entry rs i) k
           ∙ ap (isGiven s m) (sym e)
 
@@ -153,13 +175,13 @@ module _ (h : Head) (t : Tables) where
       rename-places =
           renamed-numbered (marked rm) rs (h .records) pt (names-of rs (h .records) pt records-room sound-named (sd .in-use)) (isGiven s m) mark-test records-room
 
-    -- the tests depend on branches and records alone
-    given-others : (o : Tables) → isGiven (storeOf h (withRecords (t .records) (withBranches (t .branches) o))) m ≡ isGiven s m
-    unfolding isGiven lookup newest branches records
+    -- the tests depend on branches, records and names alone
+    given-others : (o : Tables) → isGiven (storeOf h (withRecords (t .records) (withBranches (t .branches) (withNames (t .names) o)))) m ≡ isGiven s m
+    unfolding isGiven lookup newest branches records names
     given-others o = refl
 
-    ancestor-others : (o : Tables) → isAncestor (storeOf h (withRecords (t .records) (withBranches (t .branches) o))) m ≡ isAncestor s m
-    unfolding isAncestor newest branches
+    ancestor-others : (o : Tables) → isAncestor (storeOf h (withRecords (t .records) (withBranches (t .branches) (withNames (t .names) o)))) m ≡ isAncestor s m
+    unfolding isAncestor newest branches names
     ancestor-others o = refl
 
 -- the step, in the terms of the tables
@@ -174,36 +196,36 @@ accepted-step : (h : Head) (t : Tables) (m : ℕ) → h .floor ≤ m → m ≤ h
 unfolding step doReclaim branches records
 accepted-step h t m l u = rw (le-ltb m (h .floor) l, le-ltb (h .now) m u)
 
--- three of the tables, beside others
-abbrev pub lent : List ℕ → List ℕ → List ℕ → Tables → Tables
-lent bt rt pt o = withPlaces pt (withRecords rt (withBranches bt o))
+-- the tables of numbers, beside a slab
+abbrev pub lent : List ℕ → List ℕ → List ℕ → List ℕ → Tables → Tables
+lent bt rt pt nt o = withPlaces pt (withRecords rt (withBranches bt (withNames nt o)))
 
 pub reclaims :
-    (h : Head) (bt rt pt bt′ rt′ pt′ : List ℕ) (m wb wr : ℕ) {ob bm or rm : List ℕ}
-    → Reclaimable h bt rt pt → h .floor ≤ m → m ≤ h .now
-    → Filled (keptBranch (branchRowsOf bt) (h .branches) (candidates m (newestOf (branchRowsOf bt) (h .branches)))) (h .branches) ob bm
-    → Filled (keptRecord (branchRowsOf bt) (h .branches) (recordRowsOf rt) (h .records) m) (h .records) or rm
+    (h : Head) (bt rt pt nt bt′ rt′ pt′ : List ℕ) (m wb wr : ℕ) {ob bm or rm : List ℕ}
+    → Reclaimable h bt rt pt nt → h .floor ≤ m → m ≤ h .now
+    → Filled (keptBranch (branchRowsOf bt) (h .branches) (deciding (moments (take (h .names) (nameRowsOf nt))) m (newestOf (branchRowsOf bt) (h .branches)))) (h .branches) ob bm
+    → Filled (keptRecord (branchRowsOf bt) (h .branches) (recordRowsOf rt) (h .records) m (moments (take (h .names) (nameRowsOf nt)))) (h .records) or rm
     → ClosedRecords rm (h .records) rt rt′ pt pt′ wr → length rt′ ≡ length rt
     → ClosedBranches bm (h .branches) bt bt′ wb → length bt′ ≡ length bt
     → (o : Tables)
-    → Carried h (lent bt rt pt o) (reclaim m)
-    (record { head = record { size = h .size; branches = wb; records = wr; now = h .now; floor = m }; refusal = 0; value = h .records - wr; found = Nothing })
-    (lent bt′ rt′ pt′ o)
+    → Carried h (lent bt rt pt nt o) (reclaim m)
+    (record { head = record { size = h .size; branches = wb; records = wr; now = h .now; floor = m; names = h .names }; refusal = 0; value = h .records - wr; found = Nothing })
+    (lent bt′ rt′ pt′ nt o)
 unfolding reclaimed recordGiven records
-reclaims h bt rt pt bt′ rt′ pt′ m wb wr {ob} {bm} {or} {rm} a l u fb fr cr lr cb lb o =
-    let t : Tables = lent bt rt pt (a .others) in
+reclaims h bt rt pt nt bt′ rt′ pt′ m wb wr {ob} {bm} {or} {rm} a l u fb fr cr lr cb lb o =
+    let t : Tables = lent bt rt pt nt (a .others) in
     let sd : Sound (storeOf h t) = a .sound in
     let eb = keep-branches h t m sd l u fb in
     let er = keep-records h t m sd l u fr in
     let ep = rename-places h t m sd l u fr in
     let tb = laid-rows branch-kind (cb .table) lb in
     let tr = laid-rows record-kind (cr .table) lr in
-    carried h (lent bt rt pt o) (reclaim m)
+    carried h (lent bt rt pt nt o) (reclaim m)
     (sym
-    (accepted-step h (lent bt rt pt o) m l u
+    (accepted-step h (lent bt rt pt nt o) m l u
     ∙ rw (given-others h t m sd l u (withPlaces pt o), ancestor-others h t m sd l u (withPlaces pt o), ← eb, ← er, ← ep, ← tb, ← cb .count, ← tr, ← cr .count, ← cr .places)))
     refl
-    (record { branches = rw tb (cb .table); records = rw tr (cr .table) })
+    (record { branches = rw tb (cb .table); records = rw tr (cr .table); names = laid-own name-kind nt })
 
 -- refusals
 pub refuses-8 : (h : Head) (t : Tables) (m : ℕ) → m < h .floor → Carried h t (reclaim m) (refusedWith h 8) t

@@ -5,12 +5,13 @@ use rows::Outcome;
 ghost use mathlib.Core.Path.{_≡_};
 ghost use mathlib.Core.Bool.{true};
 ghost use Prim.Native.Nat.{_≤_, _<_};
-ghost use lib.ListN.{length};
-ghost use Rattle.model.specs.ByNumber.{Line, held, Ascend, candidates, newestOf};
+ghost use lib.ListN.{length, take};
+ghost use Rattle.model.specs.Store.{moments};
+ghost use Rattle.model.specs.ByNumber.{Line, held, Ascend, deciding, newestOf};
 ghost use Rattle.model.specs.Wire.{reclaim};
-ghost use Rattle.rows.specs.Rows.{branchRowsOf, recordRowsOf, BranchesIn, RecordsIn};
-ghost use Rattle.rows.specs.View.{Tables, withBranches, withRecords, withPlaces, Carried};
-ghost use Rattle.branch_marks.specs.Marks.{Filled, Zeros, keptBranch};
+ghost use Rattle.rows.specs.Rows.{branchRowsOf, recordRowsOf, nameRowsOf, BranchesIn, RecordsIn, NamesIn};
+ghost use Rattle.rows.specs.View.{Tables, withBranches, withRecords, withPlaces, withNames, Carried};
+ghost use Rattle.branch_marks.specs.Marks.{Filled, Zeros, Held, keptBranch};
 ghost use Rattle.record_marks.specs.Marks.{Placed};
 ghost use Rattle.deciding.specs.Deciding.{keptRecord};
 ghost use Rattle.reclaim.specs.Reclaimable.{Reclaimable};
@@ -30,17 +31,29 @@ fn record_bytes() -> [u8; 65536]
 }
 
 // The marks of n branches and of nr records: by the moments that decide, which are listed once.
-fn mark_all(bt: &[u32], n: usize, rt: &[u32], nr: usize, floor: u32, bm: &mut [u8], rm: &mut [u8])
-    requires { ⌜ BranchesIn n (now bt) × (n ≤ 4096) × (0 < n) × RecordsIn nr (now rt) × (n ≤ length (now bm)) × (nr ≤ length (now rm)) ⌝ }
+fn mark_all(
+    bt: &[u32],
+    n: usize,
+    rt: &[u32],
+    nr: usize,
+    nt: &[u32],
+    k: usize,
+    floor: u32,
+    bm: &mut [u8],
+    rm: &mut [u8],
+)
+    requires { ⌜ BranchesIn n (now bt) × (n ≤ 4096) × (0 < n) × RecordsIn nr (now rt) × NamesIn k (now nt) × (k ≤ 32) × (n ≤ length (now bm)) × (nr ≤ length (now rm)) ⌝ }
     requires { ⌜ Line (branchRowsOf (now bt)) n ⌝ }
     requires { ⌜ held (branchRowsOf (now bt)) n floor ≡ true ⌝ }
+    requires { ⌜ Held (branchRowsOf (now bt)) n (moments (take k (nameRowsOf (now nt)))) ⌝ }
     requires { ⌜ Ascend (recordRowsOf (now rt)) nr ⌝ }
     requires { ⌜ Placed (branchRowsOf (now bt)) n (recordRowsOf (now rt)) nr ⌝ }
-    ensures { λ _. ⌜ Filled (keptBranch (branchRowsOf (now (bt .entry))) n (candidates floor (newestOf (branchRowsOf (now (bt .entry))) n))) n (now (bm .entry)) (now (bm .exit)) ⌝ }
-    ensures { λ _. ⌜ Filled (keptRecord (branchRowsOf (now (bt .entry))) n (recordRowsOf (now (rt .entry))) nr floor) nr (now (rm .entry)) (now (rm .exit)) ⌝ }
+    ensures { λ _. ⌜ Filled (keptBranch (branchRowsOf (now (bt .entry))) n (deciding (moments (take k (nameRowsOf (now (nt .entry))))) floor (newestOf (branchRowsOf (now (bt .entry))) n))) n (now (bm .entry)) (now (bm .exit)) ⌝ }
+    ensures { λ _. ⌜ Filled (keptRecord (branchRowsOf (now (bt .entry))) n (recordRowsOf (now (rt .entry))) nr floor (moments (take k (nameRowsOf (now (nt .entry)))))) nr (now (rm .entry)) (now (rm .exit)) ⌝ }
 {
     let mut table = deciding::moments();
-    let c = deciding::deciding(bt, n, floor, &mut table);
+    let s = deciding::starts(bt, n, floor, &mut table);
+    let c = deciding::named(nt, k, s, &mut table);
     branch_marks::mark_branches(bt, n, &table[..c], bm);
     if deciding::none_older(rt, nr, floor) {
         deciding::keep_young(rt, nr, floor, rm);
@@ -51,9 +64,16 @@ fn mark_all(bt: &[u32], n: usize, rt: &[u32], nr: usize, floor: u32, bm: &mut [u
 }
 
 // Request 5, with refusals 8 and 9 in this order. The answer is the number of records freed.
-pub fn reclaim(head: Head, bt: &mut [u32], rt: &mut [u32], pt: &mut [u32], floor: u32) -> Outcome
-    requires { ⌜ Reclaimable head (now bt) (now rt) (now pt) ⌝ }
-    ensures { λ r. ⌜ ((t : Tables) → Carried head (withPlaces (now (pt .entry)) (withRecords (now (rt .entry)) (withBranches (now (bt .entry)) t))) (reclaim floor) r (withPlaces (now (pt .exit)) (withRecords (now (rt .exit)) (withBranches (now (bt .exit)) t)))) ⌝ }
+pub fn reclaim(
+    head: Head,
+    bt: &mut [u32],
+    rt: &mut [u32],
+    pt: &mut [u32],
+    nt: &[u32],
+    floor: u32,
+) -> Outcome
+    requires { ⌜ Reclaimable head (now bt) (now rt) (now pt) (now nt) ⌝ }
+    ensures { λ r. ⌜ ((t : Tables) → Carried head (withPlaces (now (pt .entry)) (withRecords (now (rt .entry)) (withBranches (now (bt .entry)) (withNames (now (nt .entry)) t)))) (reclaim floor) r (withPlaces (now (pt .exit)) (withRecords (now (rt .exit)) (withBranches (now (bt .exit)) (withNames (now (nt .entry)) t))))) ⌝ }
 {
     if floor < head.floor {
         return rows::refused(head, 8);
@@ -63,9 +83,10 @@ pub fn reclaim(head: Head, bt: &mut [u32], rt: &mut [u32], pt: &mut [u32], floor
     }
     let n = head.branches as usize;
     let nr = head.records as usize;
+    let k = head.names as usize;
     let mut bm = branch_bytes();
     let mut rm = record_bytes();
-    mark_all(bt, n, rt, nr, floor, &mut bm, &mut rm);
+    mark_all(bt, n, rt, nr, nt, k, floor, &mut bm, &mut rm);
     let wr = closing::close_records(rt, nr, pt, &rm);
     let wb = closing::close_branches(bt, n, &bm);
     let next = Head {
@@ -74,6 +95,7 @@ pub fn reclaim(head: Head, bt: &mut [u32], rt: &mut [u32], pt: &mut [u32], floor
         records: wr as u32,
         now: head.now,
         floor: floor,
+        names: head.names,
     };
     Outcome {
         head: next,

@@ -128,17 +128,17 @@ fn mark_with(
     mark_rows(bt, n, keys, ne, edges, sums, firsts, rt, nr, room, marks);
 }
 
-// Rooms for 256 branches and 257 moments: 512 events.
-fn few_keys() -> [u64; 512]
-    ensures { λ r. ⌜ Zeros 512 r ⌝ }
+// Rooms for 256 branches and 289 moments: 544 events.
+fn few_keys() -> [u64; 544]
+    ensures { λ r. ⌜ Zeros 544 r ⌝ }
 {
-    [0u64; 512]
+    [0u64; 544]
 }
 
-fn few_sums() -> [u32; 513]
-    ensures { λ r. ⌜ Zeros 513 r ⌝ }
+fn few_sums() -> [u32; 545]
+    ensures { λ r. ⌜ Zeros 545 r ⌝ }
 {
-    [0u32; 513]
+    [0u32; 545]
 }
 
 fn few_rows() -> [u32; 256]
@@ -147,9 +147,9 @@ fn few_rows() -> [u32; 256]
     [0u32; 256]
 }
 
-// The bytes of nr records, where branches and moments are few: rooms of 12 KB.
+// The bytes of nr records, where branches and moments are few: rooms of 13 KB.
 fn mark_few(bt: &[u32], n: usize, wanted: &[u32], rt: &[u32], nr: usize, marks: &mut [u8])
-    requires { ⌜ BranchesIn n (now bt) × (n ≤ 256) × (0 < n) × (length (now wanted) ≤ 257) × RecordsIn nr (now rt) × (nr ≤ length (now marks)) ⌝ }
+    requires { ⌜ BranchesIn n (now bt) × (n ≤ 256) × (0 < n) × (length (now wanted) ≤ 289) × RecordsIn nr (now rt) × (nr ≤ length (now marks)) ⌝ }
     requires { ⌜ Line (branchRowsOf (now bt)) n ⌝ }
     requires { ⌜ Held (branchRowsOf (now bt)) n (now wanted) ⌝ }
     requires { ⌜ Ascend (recordRowsOf (now rt)) nr ⌝ }
@@ -176,22 +176,22 @@ fn mark_few(bt: &[u32], n: usize, wanted: &[u32], rt: &[u32], nr: usize, marks: 
     );
 }
 
-// Rooms for 4,096 branches and 4,097 moments: 8,192 events.
-fn most_keys() -> [u64; 8192]
-    ensures { λ r. ⌜ Zeros 8192 r ⌝ }
+// Rooms for 4,096 branches and 4,129 moments: 8,224 events.
+fn most_keys() -> [u64; 8224]
+    ensures { λ r. ⌜ Zeros 8224 r ⌝ }
 {
-    [0u64; 8192]
+    [0u64; 8224]
 }
 
-fn most_sums() -> [u32; 8193]
-    ensures { λ r. ⌜ Zeros 8193 r ⌝ }
+fn most_sums() -> [u32; 8225]
+    ensures { λ r. ⌜ Zeros 8225 r ⌝ }
 {
-    [0u32; 8193]
+    [0u32; 8225]
 }
 
 // The bytes of nr records, where branches or moments are many: rooms of 197 KB.
 fn mark_many(bt: &[u32], n: usize, wanted: &[u32], rt: &[u32], nr: usize, marks: &mut [u8])
-    requires { ⌜ BranchesIn n (now bt) × (n ≤ 4096) × (0 < n) × (length (now wanted) ≤ 4097) × RecordsIn nr (now rt) × (nr ≤ length (now marks)) ⌝ }
+    requires { ⌜ BranchesIn n (now bt) × (n ≤ 4096) × (0 < n) × (length (now wanted) ≤ 4129) × RecordsIn nr (now rt) × (nr ≤ length (now marks)) ⌝ }
     requires { ⌜ Line (branchRowsOf (now bt)) n ⌝ }
     requires { ⌜ Held (branchRowsOf (now bt)) n (now wanted) ⌝ }
     requires { ⌜ Ascend (recordRowsOf (now rt)) nr ⌝ }
@@ -220,7 +220,7 @@ fn mark_many(bt: &[u32], n: usize, wanted: &[u32], rt: &[u32], nr: usize, marks:
 
 // The bytes of nr records: 1 where a lookup at a wanted moment gives it.
 pub fn mark_records(bt: &[u32], n: usize, wanted: &[u32], rt: &[u32], nr: usize, marks: &mut [u8])
-    requires { ⌜ BranchesIn n (now bt) × (n ≤ 4096) × (0 < n) × (length (now wanted) ≤ 4097) × RecordsIn nr (now rt) × (nr ≤ length (now marks)) ⌝ }
+    requires { ⌜ BranchesIn n (now bt) × (n ≤ 4096) × (0 < n) × (length (now wanted) ≤ 4129) × RecordsIn nr (now rt) × (nr ≤ length (now marks)) ⌝ }
     requires { ⌜ Line (branchRowsOf (now bt)) n ⌝ }
     requires { ⌜ Held (branchRowsOf (now bt)) n (now wanted) ⌝ }
     requires { ⌜ Ascend (recordRowsOf (now rt)) nr ⌝ }
@@ -228,7 +228,7 @@ pub fn mark_records(bt: &[u32], n: usize, wanted: &[u32], rt: &[u32], nr: usize,
     ensures { λ _. ⌜ Filled (givenRow (branchRowsOf (now (bt .entry))) n (recordRowsOf (now (rt .entry))) nr (now (wanted .entry))) nr (now (marks .entry)) (now (marks .exit)) ⌝ }
 {
     if n <= 256 {
-        if wanted.len() <= 257 {
+        if wanted.len() <= 289 {
             mark_few(bt, n, wanted, rt, nr, marks);
             return;
         }

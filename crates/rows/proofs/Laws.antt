@@ -1,6 +1,6 @@
--- Laws of rows, once over the width and the kind of row; then the two kinds.
+-- Laws of rows, once over the width and the kind of row; then the three kinds.
 use mathlib.Core.Path.{_≡_, refl, sym, ap, ap₂, _∙_}
-use mathlib.Core.List.{List, _∷_, _++_}
+use mathlib.Core.List.{List, [], _∷_, _++_}
 use Prim.Native.Nat.{ℕ, zero, suc, _+_, _-_, _*_, _/_, _≤_, _<_}
 use native.Mathlib.Nat.{add-zero, suc-mul, zero-mul, mul-le-mul-right, div-mul-le-self, le-div-iff-mul-le}
 use lib.Dec.{ltb}
@@ -12,9 +12,10 @@ use lib.ListN.{length, getD, set, take, drop, length-drop, take-append-drop, rep
 use lib.Seq.{sets, length-sets, ext-getD, getD-take, getD-drop, length-take-le, take-add}
 use Rattle.model.specs.declared.Branch.{Branch}
 use Rattle.model.specs.declared.Record.{Record}
-use Rattle.model.specs.Store.{zero-branch, zero-record}
-use Rattle.model.specs.ByNumber.{branch, entry}
-use Rattle.rows.specs.Rows.{tab, zeros, rowAt, rowsBy, flat, relaid, RowSet, branchWidth, branchOf, branchFields, branchRowsOf, recordWidth, recordOf, recordFields, recordRowsOf, BranchSet, RecordSet, BranchesIn, RecordsIn}
+use Rattle.model.specs.declared.Name.{Name}
+use Rattle.model.specs.Store.{zero-branch, zero-record, zero-name}
+use Rattle.model.specs.ByNumber.{branch, entry, nameRow}
+use Rattle.rows.specs.Rows.{tab, zeros, rowAt, rowsBy, flat, relaid, RowSet, branchWidth, branchOf, branchFields, branchRowsOf, recordWidth, recordOf, recordFields, recordRowsOf, nameWidth, nameOf, nameFields, nameRowsOf, BranchSet, RecordSet, NameSet, BranchesIn, RecordsIn, NamesIn}
 use Rattle.rows.proofs.Tab.{length-tab, getD-tab, tab-ext, tab-set}
 use Rattle.rows.proofs.Runs.{sets-in, sets-out}
 
@@ -150,12 +151,35 @@ record-kind =
       same = λ f g h k. record { address = h 0 (omega arith) k; moment = h 1 (omega arith) k; place = h 2 (omega arith) k };
     }
 
+-- rows of names
+abbrev pub name-kind : Kind Name
+name-kind =
+    record {
+      width = nameWidth;
+      wide = omega arith;
+      make = nameOf;
+      fields = nameFields;
+      full = λ n. refl;
+      back = λ n. refl;
+      column = λ f. three (λ j. getD (nameFields (nameOf f)) j 0 ≡ f j) refl refl refl;
+      same = λ f g h k. record { high = h 0 (omega arith) k; low = h 1 (omega arith) k; moment = h 2 (omega arith) k };
+    }
+
 -- how many rows a table has
 pub branch-count : (t : List ℕ) → length (branchRowsOf t) ≡ length t / branchWidth
 branch-count t = rows-length branch-kind t
 
 pub record-count : (t : List ℕ) → length (recordRowsOf t) ≡ length t / recordWidth
 record-count t = rows-length record-kind t
+
+pub name-count : (t : List ℕ) → length (nameRowsOf t) ≡ length t / nameWidth
+name-count t = rows-length name-kind t
+
+-- three numbers stored one after the other
+three-sets : (t : List ℕ) (p a b c : ℕ) {u v x : List ℕ} → u ≡ set t p a → v ≡ set u (p + 1) b → x ≡ set v (p + 2) c → x ≡ sets t p (a ∷ b ∷ c ∷ [])
+three-sets t p a b c e₁ e₂ e₃ =
+    let e : set (set (set t p a) (p + 1) b) (p + 2) c ≡ sets t p (a ∷ b ∷ c ∷ []) = simp towards-suc in
+    rw (e₃, e₂, e₁, e)
 
 -- a row read and a row stored, as the code does it
 module _ (t : List ℕ) (i : ℕ) where
@@ -166,9 +190,7 @@ module _ (t : List ℕ) (i : ℕ) where
 
   pub branch-put : BranchesIn (suc i) t → (b : Branch) {u v x : List ℕ} → u ≡ set t (i * branchWidth) (b .start) → v ≡ set u (i * branchWidth + 1) (b .end) → x ≡ set v (i * branchWidth + 2) (b .cut)
       → BranchSet t i b x
-  branch-put l b e₁ e₂ e₃ =
-      let e : set (set (set t (i * branchWidth) (b .start)) (i * branchWidth + 1) (b .end)) (i * branchWidth + 2) (b .cut) ≡ sets t (i * branchWidth) (branchFields b) = simp towards-suc in
-      rw (e₃, e₂, e₁, e) (row-put branch-kind t i b (omega arith))
+  branch-put l b e₁ e₂ e₃ = rw (three-sets t (i * branchWidth) _ _ _ e₁ e₂ e₃) (row-put branch-kind t i b (omega arith))
 
   pub record-get : RecordsIn (suc i) t
       → entry (recordRowsOf t) i
@@ -177,9 +199,16 @@ module _ (t : List ℕ) (i : ℕ) where
 
   pub record-put : RecordsIn (suc i) t → (r : Record) {u v x : List ℕ} → u ≡ set t (i * recordWidth) (r .address) → v ≡ set u (i * recordWidth + 1) (r .moment) → x ≡ set v (i * recordWidth + 2) (r .place)
       → RecordSet t i r x
-  record-put l r e₁ e₂ e₃ =
-      let e : set (set (set t (i * recordWidth) (r .address)) (i * recordWidth + 1) (r .moment)) (i * recordWidth + 2) (r .place) ≡ sets t (i * recordWidth) (recordFields r) = simp towards-suc in
-      rw (e₃, e₂, e₁, e) (row-put record-kind t i r (omega arith))
+  record-put l r e₁ e₂ e₃ = rw (three-sets t (i * recordWidth) _ _ _ e₁ e₂ e₃) (row-put record-kind t i r (omega arith))
+
+  pub name-get : NamesIn (suc i) t
+      → nameRow (nameRowsOf t) i
+      ≡ record { high = getD t (i * nameWidth) 0; low = getD t (i * nameWidth + 1) 0; moment = getD t (i * nameWidth + 2) 0 }
+  name-get l = rows-get name-kind t i zero-name (omega arith) ∙ rw (add-zero (i * nameWidth))
+
+  pub name-put : NamesIn (suc i) t → (n : Name) {u v x : List ℕ} → u ≡ set t (i * nameWidth) (n .high) → v ≡ set u (i * nameWidth + 1) (n .low) → x ≡ set v (i * nameWidth + 2) (n .moment)
+      → NameSet t i n x
+  name-put l n e₁ e₂ e₃ = rw (three-sets t (i * nameWidth) _ _ _ e₁ e₂ e₃) (row-put name-kind t i n (omega arith))
 
 -- a table of zeros: its length, and its rows
 pub length-zeros : (n : ℕ) → length (zeros n) ≡ n

@@ -1,10 +1,11 @@
--- A flat table of numbers seen as rows of any width, and the rows of branches and of records.
+-- A flat table of numbers seen as rows of any width, and the rows of branches, of records and of names.
 use mathlib.Core.Path.{_≡_}
 use mathlib.Core.List.{List, [], _∷_, _++_}
 use Prim.Native.Nat.{ℕ, zero, suc, _+_, _*_, _/_, _≤_}
 use lib.ListN.{length, getD, set, drop, replicate}
 use Rattle.model.specs.declared.Branch.{Branch}
 use Rattle.model.specs.declared.Record.{Record}
+use Rattle.model.specs.declared.Name.{Name}
 
 -- the list of f 0, f 1, .., f (n - 1)
 unfoldable pub tab : {A : Type 0} → ℕ → (ℕ → A) → List A
@@ -66,12 +67,28 @@ recordFields r = r .address ∷ r .moment ∷ r .place ∷ []
 abbrev pub recordRowsOf : List ℕ → List Record
 recordRowsOf = rowsBy recordWidth recordOf
 
--- the branch table, and the record table, with these rows
+-- a name row: the two numbers of the name, and the moment
+abbrev pub nameWidth : ℕ
+nameWidth = 3
+
+abbrev pub nameOf : (ℕ → ℕ) → Name
+nameOf f = record { high = f 0; low = f 1; moment = f 2 }
+
+abbrev pub nameFields : Name → List ℕ
+nameFields n = n .high ∷ n .low ∷ n .moment ∷ []
+
+abbrev pub nameRowsOf : List ℕ → List Name
+nameRowsOf = rowsBy nameWidth nameOf
+
+-- the branch table, the record table and the name table with these rows
 abbrev pub branchTable : List Branch → List ℕ → List ℕ
 branchTable = relaid branchWidth branchFields
 
 abbrev pub recordTable : List Record → List ℕ → List ℕ
 recordTable = relaid recordWidth recordFields
+
+abbrev pub nameTable : List Name → List ℕ → List ℕ
+nameTable = relaid nameWidth nameFields
 
 -- the table u is t with these rows
 abbrev pub BranchesLaid : List ℕ → List Branch → List ℕ → Type 0
@@ -80,6 +97,9 @@ BranchesLaid = Relaid branchWidth branchFields
 abbrev pub RecordsLaid : List ℕ → List Record → List ℕ → Type 0
 RecordsLaid = Relaid recordWidth recordFields
 
+abbrev pub NamesLaid : List ℕ → List Name → List ℕ → Type 0
+NamesLaid = Relaid nameWidth nameFields
+
 -- the table u is t with one row set
 abbrev pub BranchSet : List ℕ → ℕ → Branch → List ℕ → Type 0
 BranchSet = RowSet branchWidth branchOf branchFields
@@ -87,9 +107,15 @@ BranchSet = RowSet branchWidth branchOf branchFields
 abbrev pub RecordSet : List ℕ → ℕ → Record → List ℕ → Type 0
 RecordSet = RowSet recordWidth recordOf recordFields
 
+abbrev pub NameSet : List ℕ → ℕ → Name → List ℕ → Type 0
+NameSet = RowSet nameWidth nameOf nameFields
+
 -- the table has n rows
 abbrev pub BranchesIn : ℕ → List ℕ → Type 0
 BranchesIn n t = n * branchWidth ≤ length t
 
 abbrev pub RecordsIn : ℕ → List ℕ → Type 0
 RecordsIn n t = n * recordWidth ≤ length t
+
+abbrev pub NamesIn : ℕ → List ℕ → Type 0
+NamesIn n t = n * nameWidth ≤ length t

@@ -10,48 +10,60 @@ use Rattle.model.specs.declared.Record.{Record}
 use Rattle.model.specs.Store.{Store, foundPage}
 use Rattle.model.specs.Lookup.{lookup}
 use Rattle.model.specs.Step.{Stepped, doRead, step}
-use Rattle.model.specs.Wire.{Request, write, mark, revert, readAt, reclaim, Answer}
+use Rattle.model.specs.Wire.{Request, write, mark, revert, readAt, reclaim, give, withdraw, Answer}
 use Rattle.rows.specs.declared.Found.{Found}
 use Rattle.rows.specs.declared.Found.the-variants.{Row, Nothing}
 use Rattle.rows.specs.declared.Outcome.{Outcome}
-use Rattle.rows.specs.Rows.{branchRowsOf, recordRowsOf, branchTable, recordTable}
+use Rattle.rows.specs.Rows.{branchRowsOf, recordRowsOf, nameRowsOf, branchTable, recordTable, nameTable}
 
 -- tables and slab as they are lent: flat numbers, and bytes
 pub record Tables : Type 0 where
   pub branches : List ℕ
   pub records : List ℕ
   pub places : List ℕ
+  pub names : List ℕ
   pub slab : List ℕ
 
-abbrev pub tables : List ℕ → List ℕ → List ℕ → List ℕ → Tables
-tables bt rt pt slab = record { branches = bt; records = rt; places = pt; slab = slab }
+abbrev pub tables : List ℕ → List ℕ → List ℕ → List ℕ → List ℕ → Tables
+tables bt rt pt nt slab = record { branches = bt; records = rt; places = pt; names = nt; slab = slab }
 
 -- the tables of numbers alone
-abbrev pub numberTables : List ℕ → List ℕ → List ℕ → Tables
-numberTables bt rt pt = tables bt rt pt []
+abbrev pub numberTables : List ℕ → List ℕ → List ℕ → List ℕ → Tables
+numberTables bt rt pt nt = tables bt rt pt nt []
 
 -- tables with one of them another
 abbrev pub withBranches : List ℕ → Tables → Tables
-withBranches bt t = record { branches = bt; records = t .records; places = t .places; slab = t .slab }
+withBranches bt t = tables bt (t .records) (t .places) (t .names) (t .slab)
 
 abbrev pub withRecords : List ℕ → Tables → Tables
-withRecords rt t = record { branches = t .branches; records = rt; places = t .places; slab = t .slab }
+withRecords rt t = tables (t .branches) rt (t .places) (t .names) (t .slab)
 
 abbrev pub withPlaces : List ℕ → Tables → Tables
-withPlaces pt t = record { branches = t .branches; records = t .records; places = pt; slab = t .slab }
+withPlaces pt t = tables (t .branches) (t .records) pt (t .names) (t .slab)
+
+abbrev pub withNames : List ℕ → Tables → Tables
+withNames nt t = tables (t .branches) (t .records) (t .places) nt (t .slab)
 
 abbrev pub withSlab : List ℕ → Tables → Tables
-withSlab slab t = record { branches = t .branches; records = t .records; places = t .places; slab = slab }
+withSlab slab t = tables (t .branches) (t .records) (t .places) (t .names) slab
 
 -- head and tables as the store that they are
 abbrev pub storeOf : Head → Tables → Store
 storeOf head t =
-    record { head = head; branchRows = branchRowsOf (t .branches); recordRows = recordRowsOf (t .records); placeRows = t .places; slab = t .slab }
+    record {
+      head = head;
+      branchRows = branchRowsOf (t .branches);
+      recordRows = recordRowsOf (t .records);
+      placeRows = t .places;
+      nameRows = nameRowsOf (t .names);
+      slab = t .slab;
+    }
 
 -- the tables with a store laid over them: every number
 abbrev pub laid : Store → Tables → Tables
 laid s t =
-    record { branches = branchTable (s .branchRows) (t .branches); records = recordTable (s .recordRows) (t .records); places = s .placeRows; slab = s .slab }
+    tables (branchTable (s .branchRows) (t .branches)) (recordTable (s .recordRows) (t .records)) (s .placeRows)
+    (nameTable (s .nameRows) (t .names)) (s .slab)
 
 -- what a lookup found
 abbrev pub foundOf : Found → Option Record
@@ -73,6 +85,8 @@ recordGiven s mark = none
 recordGiven s (revert m) = none
 recordGiven s (readAt a m) = cond (eqb (doRead s a m .answer .refusal) 0) (lookup s a m) none
 recordGiven s (reclaim m) = none
+recordGiven s (give n) = none
+recordGiven s (withdraw high low) = none
 
 -- what a step gives back, with the record that it gives, if any
 abbrev pub outcomeOf : Stepped → Option Record → Outcome

@@ -1,18 +1,21 @@
 // Rows of flat tables, and what a request gives back.
 use model::Branch;
 use model::Head;
+use model::Name;
 use model::Record;
 ghost use mathlib.Core.Path.{_≡_};
 ghost use Prim.Native.Nat.{suc, _<_};
 ghost use lib.ListN.{length, set};
-ghost use Rattle.model.specs.ByNumber.{branch, entry};
+ghost use Rattle.model.specs.ByNumber.{branch, entry, nameRow};
 ghost use Rattle.rows.specs.View.{refusedWith, acceptedWith};
-ghost use Rattle.rows.specs.Rows.{branchRowsOf, recordRowsOf, BranchSet, RecordSet, BranchesIn, RecordsIn};
+ghost use Rattle.rows.specs.Rows.{branchRowsOf, recordRowsOf, nameRowsOf, BranchSet, RecordSet, NameSet, BranchesIn, RecordsIn, NamesIn};
 
 // How many numbers a row has.
 pub const BRANCH_WIDTH: usize = 3;
 
 pub const RECORD_WIDTH: usize = 3;
+
+pub const NAME_WIDTH: usize = 3;
 
 // A row of zeros.
 pub const ZERO_BRANCH: Branch = Branch {
@@ -25,6 +28,12 @@ pub const ZERO_RECORD: Record = Record {
     address: 0,
     moment: 0,
     place: 0,
+};
+
+pub const ZERO_NAME: Name = Name {
+    high: 0,
+    low: 0,
+    moment: 0,
 };
 
 // What a lookup finds.
@@ -103,6 +112,18 @@ pub fn record_at(t: &[u32], i: usize) -> Record
     }
 }
 
+pub fn name_at(t: &[u32], i: usize) -> Name
+    requires { ⌜ NamesIn (suc i) (now t) ⌝ }
+    ensures { λ r. ⌜ r ≡ nameRow (nameRowsOf (now (t .entry))) i ⌝ }
+{
+    let at = i * NAME_WIDTH;
+    Name {
+        high: t[at],
+        low: t[at + 1],
+        moment: t[at + 2],
+    }
+}
+
 // One number of a table, and no other.
 fn put(t: &mut [u32], i: usize, v: u32)
     requires { ⌜ i < length (now t) ⌝ }
@@ -129,4 +150,14 @@ pub fn set_record(t: &mut [u32], i: usize, b: Record)
     put(t, at, b.address);
     put(t, at + 1, b.moment);
     put(t, at + 2, b.place);
+}
+
+pub fn set_name(t: &mut [u32], i: usize, n: Name)
+    requires { ⌜ NamesIn (suc i) (now t) ⌝ }
+    ensures { λ _. ⌜ NameSet (now (t .entry)) i n (now (t .exit)) ⌝ }
+{
+    let at = i * NAME_WIDTH;
+    put(t, at, n.high);
+    put(t, at + 1, n.low);
+    put(t, at + 2, n.moment);
 }

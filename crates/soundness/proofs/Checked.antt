@@ -1,19 +1,19 @@
 -- The table checks together, and what a caller learns of them.
 use mathlib.Core.Path.{_≡_, refl, sym, _∙_}
-use mathlib.Core.Bool.{true, false, _&&_}
+use mathlib.Core.Bool.{Bool, true, false, _&&_}
 use Prim.Native.Nat.{ℕ, _≤_}
 use native.Mathlib.Omega.{arith}
 use lib.ListN.{length}
 use Rattle.model.specs.declared.Head.{Head}
-use Rattle.model.specs.Store.{Store, open-end}
-use Rattle.model.specs.Soundness.{sizesAllowed, inRange, branchesSound, recordsSound, tableCheck}
+use Rattle.model.specs.Store.{Store, newest, names, open-end}
+use Rattle.model.specs.Soundness.{sizesAllowed, inRange, branchesSound, namesSound, rowsSound, recordsSound, tableCheck}
 use Rattle.model.proofs.Base.{case, and→}
 use Rattle.model.proofs.Invariant.{sound-check}
 use Rattle.model.specs.ByNumber.{Sound}
 use Rattle.model.proofs.Checked.{check-sound}
-use Rattle.rows.specs.Rows.{branchRowsOf, recordRowsOf}
+use Rattle.rows.specs.Rows.{branchRowsOf, recordRowsOf, nameRowsOf}
 use Rattle.rows.specs.View.{Tables, storeOf}
-use Rattle.rows.proofs.Laws.{branch-count, record-count}
+use Rattle.rows.proofs.Laws.{branch-count, record-count, name-count}
 use Rattle.soundness.specs.Check.{wholeTables, allowedOf, allowedIn, checkOf}
 use Rattle.soundness.proofs.Sizes.{WholeRows, whole→, →whole}
 
@@ -34,16 +34,24 @@ module _ (head : Head) (t : Tables) where
     both = and→ _ _ ranges
 
     pub check-two : branchesSound S ≡ false → 2 ≡ checkOf head t
-    unfolding checkOf tableCheck
+    unfolding checkOf tableCheck rowsSound
     check-two e = rw (both .0, both .1, e)
 
-    pub check-three : branchesSound S ≡ true → recordsSound S ≡ false → 3 ≡ checkOf head t
-    unfolding checkOf tableCheck
-    check-three b e = rw (both .0, both .1, b, e)
+    module _ (b : branchesSound S ≡ true) where
+      abbrev Named : Bool → Type 0
+      Named x = namesSound (head .now) (newest S) (names S) ≡ x
 
-    pub check-none : branchesSound S ≡ true → recordsSound S ≡ true → 0 ≡ checkOf head t
-    unfolding checkOf tableCheck
-    check-none b e = rw (both .0, both .1, b, e)
+      pub check-names : Named false → 2 ≡ checkOf head t
+      unfolding checkOf tableCheck rowsSound
+      check-names n = rw (both .0, both .1, b, n)
+
+      pub check-three : Named true → recordsSound S ≡ false → 3 ≡ checkOf head t
+      unfolding checkOf tableCheck rowsSound
+      check-three n e = rw (both .0, both .1, b, n, e)
+
+      pub check-none : Named true → recordsSound S ≡ true → 0 ≡ checkOf head t
+      unfolding checkOf tableCheck rowsSound
+      check-none n e = rw (both .0, both .1, b, n, e)
 
   -- what is lent and passes the checks is whole rows and sound; now is a number of 32 bits
   passed : checkOf head t ≡ 0 → (wholeTables t ≡ true) × (tableCheck S ≡ 0)
@@ -66,12 +74,12 @@ module _ (head : Head) (t : Tables) where
 
 -- the sizes that are allowed, of the rows that are lent
 module _ (size : ℕ) (t : Tables) where
-  pub allowed-rows : allowedIn size t ≡ (wholeTables t && sizesAllowed size (length (branchRowsOf (t .branches))) (length (recordRowsOf (t .records))) (length (t .places)) (length (t .slab)))
+  pub allowed-rows : allowedIn size t ≡ (wholeTables t && sizesAllowed size (length (branchRowsOf (t .branches))) (length (recordRowsOf (t .records))) (length (t .places)) (length (nameRowsOf (t .names))) (length (t .slab)))
   unfolding allowedOf
-  allowed-rows = rw (branch-count (t .branches), record-count (t .records)) refl
+  allowed-rows = rw (branch-count (t .branches), record-count (t .records), name-count (t .names)) refl
 
   pub allowed-whole : allowedIn size t ≡ true → WholeRows t
   allowed-whole e = whole→ t (and→ _ _ (sym allowed-rows ∙ e) .0)
 
-  pub allowed-sizes : allowedIn size t ≡ true → sizesAllowed size (length (branchRowsOf (t .branches))) (length (recordRowsOf (t .records))) (length (t .places)) (length (t .slab)) ≡ true
+  pub allowed-sizes : allowedIn size t ≡ true → sizesAllowed size (length (branchRowsOf (t .branches))) (length (recordRowsOf (t .records))) (length (t .places)) (length (nameRowsOf (t .names))) (length (t .slab)) ≡ true
   allowed-sizes e = and→ (wholeTables t) _ (sym allowed-rows ∙ e) .1

@@ -5,22 +5,22 @@ use lib.Dec.{eqb}
 use lib.ListN.{length}
 use Rattle.model.specs.declared.Head.{Head}
 use Rattle.model.specs.Soundness.{sizesAllowed, tableCheck}
-use Rattle.rows.specs.Rows.{branchWidth, recordWidth}
+use Rattle.rows.specs.Rows.{branchWidth, recordWidth, nameWidth}
 use Rattle.rows.specs.View.{Tables, storeOf}
 
--- a branch table of lb numbers and a record table of lr numbers are whole numbers of rows long
-unfoldable pub wholeRows : ℕ → ℕ → Bool
-wholeRows lb lr = eqb (lb % branchWidth) 0 && eqb (lr % recordWidth) 0
+-- a branch table of lb numbers, a record table of lr and a name table of ln are whole numbers of rows long
+unfoldable pub wholeRows : ℕ → ℕ → ℕ → Bool
+wholeRows lb lr ln = eqb (lb % branchWidth) 0 && (eqb (lr % recordWidth) 0 && eqb (ln % nameWidth) 0)
 
 abbrev pub wholeTables : Tables → Bool
-wholeTables t = wholeRows (length (t .branches)) (length (t .records))
+wholeTables t = wholeRows (length (t .branches)) (length (t .records)) (length (t .names))
 
--- the volume size and the lengths that document 01 allows, of tables of lb, lr and lp numbers and a slab of ls bytes
-unfoldable pub allowedOf : ℕ → ℕ → ℕ → ℕ → ℕ → Bool
-allowedOf size lb lr lp ls = wholeRows lb lr && sizesAllowed size (lb / branchWidth) (lr / recordWidth) lp ls
+-- the volume size and the lengths that document 01 allows, of tables of lb, lr, lp and ln numbers and a slab of ls bytes
+unfoldable pub allowedOf : ℕ → ℕ → ℕ → ℕ → ℕ → ℕ → Bool
+allowedOf size lb lr lp ln ls = wholeRows lb lr ln && sizesAllowed size (lb / branchWidth) (lr / recordWidth) lp (ln / nameWidth) ls
 
 abbrev pub allowedIn : ℕ → Tables → Bool
-allowedIn size t = allowedOf size (length (t .branches)) (length (t .records)) (length (t .places)) (length (t .slab))
+allowedIn size t = allowedOf size (length (t .branches)) (length (t .records)) (length (t .places)) (length (t .names)) (length (t .slab))
 
 -- the refusal of the table checks, 0 where there is none: 1 where a table's length is no whole number of rows
 unfoldable pub checkOf : Head → Tables → ℕ

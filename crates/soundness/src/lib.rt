@@ -2,15 +2,16 @@
 use model::Head;
 use model::OPEN_END;
 use rows::BRANCH_WIDTH;
+use rows::NAME_WIDTH;
 use rows::RECORD_WIDTH;
 ghost use mathlib.Core.Path.{_≡_};
 ghost use mathlib.Core.List.{_∷_, []};
 ghost use mathlib.Core.Bool.{true, _&&_};
 ghost use Prim.Native.Nat.{suc, _-_, _≤_, _<_};
-ghost use lib.ListN.{length};
-ghost use Rattle.model.specs.Soundness.{chained, precedes, placed, used, inRange, branchesSound, recordsSound};
+ghost use lib.ListN.{length, take, drop};
+ghost use Rattle.model.specs.Soundness.{chained, precedes, placed, used, inRange, branchesSound, namesSound, recordsSound};
 ghost use Rattle.model.specs.ByNumber.{newestOf, held, entry, Stairs};
-ghost use Rattle.rows.specs.Rows.{branchRowsOf, recordRowsOf, BranchesIn, RecordsIn};
+ghost use Rattle.rows.specs.Rows.{branchRowsOf, recordRowsOf, nameRowsOf, BranchesIn, RecordsIn, NamesIn};
 ghost use Rattle.rows.specs.View.{Tables, tables, withBranches, withRecords, withPlaces, storeOf};
 ghost use Rattle.soundness.specs.Check.{wholeTables, allowedOf, checkOf};
 
@@ -62,7 +63,7 @@ fn linked(bt: &[u32], i: usize, floor: u32) -> bool
     held_in(bt, i, b.cut)
 }
 
-// Check 2, in one pass over the counted branches.
+// Check 2 of the branches, in one pass over the counted ones.
 fn branches_sound(head: Head, bt: &[u32]) -> bool
     requires { ⌜ (1 ≤ head .branches) × BranchesIn (head .branches) (now bt) ⌝ }
     ensures { λ r. ⌜ ((t : Tables) → r ≡ branchesSound (storeOf head (withBranches (now (bt .entry)) t))) ⌝ }
@@ -89,6 +90,41 @@ fn branches_sound(head: Head, bt: &[u32]) -> bool
     }
     if head.now < last.start {
         return false;
+    }
+    true
+}
+
+// Whether the name i is sound, where those after it are.
+fn name_sound(head: Head, bt: &[u32], nt: &[u32], i: usize) -> bool
+    requires { ⌜ BranchesIn (head .branches) (now bt) × NamesIn (head .names) (now nt) × (i < head .names) ⌝ }
+    requires { ⌜ Stairs (branchRowsOf (now bt)) (head .branches) ⌝ }
+    requires { ⌜ namesSound (head .now) (newestOf (branchRowsOf (now bt)) (head .branches)) (drop (suc i) (take (head .names) (nameRowsOf (now nt)))) ≡ true ⌝ }
+    ensures { λ r. ⌜ r ≡ namesSound (head .now) (newestOf (branchRowsOf (now (bt .entry))) (head .branches)) (drop i (take (head .names) (nameRowsOf (now (nt .entry))))) ⌝ }
+{
+    let x = rows::name_at(nt, i);
+    if head.now <= x.moment {
+        return false;
+    }
+    let twice = naming::is_given(nt, i + 1, head.names as usize, x.high, x.low);
+    if twice {
+        return false;
+    }
+    held_in(bt, head.branches as usize, x.moment)
+}
+
+// Check 2 of the names, from the last to the first.
+fn names_sound(head: Head, bt: &[u32], nt: &[u32]) -> bool
+    requires { ⌜ BranchesIn (head .branches) (now bt) × NamesIn (head .names) (now nt) ⌝ }
+    requires { ⌜ Stairs (branchRowsOf (now bt)) (head .branches) ⌝ }
+    ensures { λ r. ⌜ r ≡ namesSound (head .now) (newestOf (branchRowsOf (now (bt .entry))) (head .branches)) (take (head .names) (nameRowsOf (now (nt .entry)))) ⌝ }
+{
+    let mut i = head.names as usize;
+    while 0 < i {
+        let ok = name_sound(head, bt, nt, i - 1);
+        if !ok {
+            return false;
+        }
+        i -= 1;
     }
     true
 }
@@ -179,9 +215,9 @@ fn records_sound(head: Head, bt: &[u32], rt: &[u32], pt: &[u32]) -> bool
     true
 }
 
-// Whether the volume size and the lengths are allowed: tables of lb, lr and lp numbers, a slab of ls bytes.
-pub fn sizes_allowed(size: u32, lb: usize, lr: usize, lp: usize, ls: usize) -> bool
-    ensures { λ r. ⌜ r ≡ allowedOf size lb lr lp ls ⌝ }
+// Whether the volume size and the lengths are allowed: tables of lb, lr, lp and ln numbers, a slab of ls bytes.
+pub fn sizes_allowed(size: u32, lb: usize, lr: usize, lp: usize, ln: usize, ls: usize) -> bool
+    ensures { λ r. ⌜ r ≡ allowedOf size lb lr lp ln ls ⌝ }
 {
     if lb % BRANCH_WIDTH != 0 {
         return false;
@@ -213,6 +249,9 @@ pub fn sizes_allowed(size: u32, lb: usize, lr: usize, lp: usize, ls: usize) -> b
     if 65536 < lp {
         return false;
     }
+    if ln != 32 * NAME_WIDTH {
+        return false;
+    }
     if ls != 256 * lp {
         return false;
     }
@@ -220,10 +259,17 @@ pub fn sizes_allowed(size: u32, lb: usize, lr: usize, lp: usize, ls: usize) -> b
 }
 
 // Check 1.
-fn in_range(head: Head, bt: &[u32], rt: &[u32], pt: &[u32], slab: &[u8]) -> bool
-    ensures { λ r. ⌜ r ≡ (wholeTables (tables (now (bt .entry)) (now (rt .entry)) (now (pt .entry)) (now (slab .entry))) && inRange (storeOf head (tables (now (bt .entry)) (now (rt .entry)) (now (pt .entry)) (now (slab .entry))))) ⌝ }
+fn in_range(head: Head, bt: &[u32], rt: &[u32], pt: &[u32], nt: &[u32], slab: &[u8]) -> bool
+    ensures { λ r. ⌜ r ≡ (wholeTables (tables (now (bt .entry)) (now (rt .entry)) (now (pt .entry)) (now (nt .entry)) (now (slab .entry))) && inRange (storeOf head (tables (now (bt .entry)) (now (rt .entry)) (now (pt .entry)) (now (nt .entry)) (now (slab .entry))))) ⌝ }
 {
-    let sizes = sizes_allowed(head.size, bt.len(), rt.len(), pt.len(), slab.len());
+    let sizes = sizes_allowed(
+        head.size,
+        bt.len(),
+        rt.len(),
+        pt.len(),
+        nt.len(),
+        slab.len(),
+    );
     if !sizes {
         return false;
     }
@@ -238,6 +284,9 @@ fn in_range(head: Head, bt: &[u32], rt: &[u32], pt: &[u32], slab: &[u8]) -> bool
     if rt.len() / RECORD_WIDTH < nr {
         return false;
     }
+    if 32 < head.names {
+        return false;
+    }
     if head.now < head.floor {
         return false;
     }
@@ -245,15 +294,19 @@ fn in_range(head: Head, bt: &[u32], rt: &[u32], pt: &[u32], slab: &[u8]) -> bool
 }
 
 // The table checks, in their order: 0, or the number of the first that refuses.
-pub fn check(head: Head, bt: &[u32], rt: &[u32], pt: &[u32], slab: &[u8]) -> u32
-    ensures { λ r. ⌜ r ≡ checkOf head (tables (now (bt .entry)) (now (rt .entry)) (now (pt .entry)) (now (slab .entry))) ⌝ }
+pub fn check(head: Head, bt: &[u32], rt: &[u32], pt: &[u32], nt: &[u32], slab: &[u8]) -> u32
+    ensures { λ r. ⌜ r ≡ checkOf head (tables (now (bt .entry)) (now (rt .entry)) (now (pt .entry)) (now (nt .entry)) (now (slab .entry))) ⌝ }
 {
-    let ranges = in_range(head, bt, rt, pt, slab);
+    let ranges = in_range(head, bt, rt, pt, nt, slab);
     if !ranges {
         return 1;
     }
     let rows = branches_sound(head, bt);
     if !rows {
+        return 2;
+    }
+    let named = names_sound(head, bt, nt);
+    if !named {
         return 2;
     }
     let tables = records_sound(head, bt, rt, pt);

@@ -5,19 +5,11 @@ use model::OPEN_END;
 use rows::Outcome;
 ghost use mathlib.Core.Path.{_≡_};
 ghost use lib.ListN.{length};
-ghost use Rattle.model.specs.Lookup.{isReadable};
 ghost use Rattle.model.specs.Wire.{mark, revert, readAt};
 ghost use Rattle.model.specs.Step.{doRevert};
-ghost use Rattle.rows.specs.Rows.{branchRowsOf};
-ghost use Rattle.rows.specs.View.{Tables, withBranches, withRecords, storeOf, Carried};
+ghost use Rattle.rows.specs.Rows.{branchRowsOf, NamesIn};
+ghost use Rattle.rows.specs.View.{Tables, withBranches, withRecords, withNames, storeOf, Carried};
 ghost use Rattle.store.specs.Asked.{Revertible, Readable};
-
-// Whether a moment up to now can be read.
-pub fn readable(head: Head, m: u32) -> bool
-    ensures { λ r. ⌜ r ≡ isReadable (head .floor) m ⌝ }
-{
-    head.floor <= m
-}
 
 // Seals now; now grows by 1.
 pub fn mark(head: Head) -> Outcome
@@ -34,15 +26,17 @@ pub fn mark(head: Head) -> Outcome
         records: head.records,
         now: next,
         floor: head.floor,
+        names: head.names,
     };
     rows::accepted(after, current)
 }
 
 // The refusal of a revert to a moment, over a branch table of so many rows; 0 where there is none.
-pub fn revert_refusal(head: Head, rows: usize, to: u32) -> u32
-    ensures { λ r. ⌜ ((t : Tables) → length (branchRowsOf (t .branches)) ≡ rows → r ≡ doRevert (storeOf head t) to .answer .refusal) ⌝ }
+pub fn revert_refusal(head: Head, rows: usize, nt: &[u32], to: u32) -> u32
+    requires { ⌜ NamesIn (head .names) (now nt) ⌝ }
+    ensures { λ r. ⌜ ((t : Tables) → length (branchRowsOf (t .branches)) ≡ rows → r ≡ doRevert (storeOf head (withNames (now (nt .entry)) t)) to .answer .refusal) ⌝ }
 {
-    let below = !readable(head, to);
+    let below = !naming::readable(head, nt, to);
     let above = head.now <= to;
     let late = OPEN_END <= head.now;
     let full = rows <= head.branches as usize;
@@ -62,11 +56,11 @@ pub fn revert_refusal(head: Head, rows: usize, to: u32) -> u32
 }
 
 // Seals now as the end of the current branch; a new branch starts after it, with the moment m as its cut.
-pub fn revert(head: Head, bt: &mut [u32], m: u32) -> Outcome
-    requires { ⌜ Revertible head (now bt) ⌝ }
-    ensures { λ r. ⌜ ((t : Tables) → Carried head (withBranches (now (bt .entry)) t) (revert m) r (withBranches (now (bt .exit)) t)) ⌝ }
+pub fn revert(head: Head, bt: &mut [u32], nt: &[u32], m: u32) -> Outcome
+    requires { ⌜ Revertible head (now bt) (now nt) ⌝ }
+    ensures { λ r. ⌜ ((t : Tables) → Carried head (withNames (now (nt .entry)) (withBranches (now (bt .entry)) t)) (revert m) r (withNames (now (nt .entry)) (withBranches (now (bt .exit)) t))) ⌝ }
 {
-    let refusal = revert_refusal(head, rows::branch_rows(bt), m);
+    let refusal = revert_refusal(head, rows::branch_rows(bt), nt, m);
     if refusal != 0 {
         return rows::refused(head, refusal);
     }
@@ -92,17 +86,18 @@ pub fn revert(head: Head, bt: &mut [u32], m: u32) -> Outcome
         records: head.records,
         now: next,
         floor: head.floor,
+        names: head.names,
     };
     rows::accepted(after, sealed)
 }
 
 // The record whose page the address a has at the moment m.
-pub fn read(head: Head, bt: &[u32], rt: &[u32], a: u32, m: u32) -> Outcome
-    requires { ⌜ Readable head (now bt) (now rt) ⌝ }
-    ensures { λ r. ⌜ ((t : Tables) → Carried head (withRecords (now (rt .entry)) (withBranches (now (bt .entry)) t)) (readAt a m) r (withRecords (now (rt .entry)) (withBranches (now (bt .entry)) t))) ⌝ }
+pub fn read(head: Head, bt: &[u32], rt: &[u32], nt: &[u32], a: u32, m: u32) -> Outcome
+    requires { ⌜ Readable head (now bt) (now rt) (now nt) ⌝ }
+    ensures { λ r. ⌜ ((t : Tables) → Carried head (withNames (now (nt .entry)) (withRecords (now (rt .entry)) (withBranches (now (bt .entry)) t))) (readAt a m) r (withNames (now (nt .entry)) (withRecords (now (rt .entry)) (withBranches (now (bt .entry)) t)))) ⌝ }
 {
     let outside = head.size <= a;
-    let gone = !readable(head, m);
+    let gone = !naming::readable(head, nt, m);
     let ahead = head.now < m;
     if outside {
         return rows::refused(head, 4);

@@ -10,7 +10,7 @@ use lib.Seq.{length-take-le, getD-drop, take-suc, take-suc-set, take-all}
 use borrow.Author.Tests.{eqb-true, eq-eqb, leb-true, le-leb}
 use Rattle.model.specs.Wire.{number, bytes}
 use Rattle.model.proofs.Base.{case, and→, →and}
-use Rattle.rows.specs.Rows.{flat, branchWidth, recordWidth}
+use Rattle.rows.specs.Rows.{flat, branchWidth, recordWidth, nameWidth}
 use Rattle.rows.proofs.Tab.{getD-tab}
 use Rattle.wire.specs.Answers.{inFront}
 use Rattle.tables.specs.Numbers.{spelledAt, spelled, numbersOf, bytesOf}
@@ -59,25 +59,27 @@ bytes-all src dst i l h =
     rw (take-all i src h, drop-of-length-le dst m) (append-nil (bytesOf src))
 
 -- the lengths that may be lent, as statements
-pub record Lengths (h b r p : ℕ) : Type 0 where
-  pub head : h ≡ 20
+pub record Lengths (h b r p n : ℕ) : Type 0 where
+  pub head : h ≡ 24
   pub branches : b % (branchWidth * 4) ≡ 0
   pub branches-most : b ≤ branchWidth * 4 * 4096
   pub records : r % (recordWidth * 4) ≡ 0
   pub records-most : r ≤ recordWidth * 4 * 65536
   pub places : p % 4 ≡ 0
   pub places-most : p ≤ 4 * 65536
+  pub names : n ≡ 32 * nameWidth * 4
 
-module _ {h b r p : ℕ} where
-  pub lengths→ : lengthsFit h b r p ≡ true → Lengths h b r p
+module _ {h b r p n : ℕ} where
+  pub lengths→ : lengthsFit h b r p n ≡ true → Lengths h b r p n
   unfolding lengthsFit
   lengths→ e =
-      let x = and→ (eqb h 20) _ e in
+      let x = and→ (eqb h 24) _ e in
       let y = and→ (rowsFit branchWidth 4096 b) _ (x .1) in
       let z = and→ (rowsFit recordWidth 65536 r) _ (y .1) in
       let k = and→ (eqb (b % (branchWidth * 4)) 0) _ (y .0) in
       let l = and→ (eqb (r % (recordWidth * 4)) 0) _ (z .0) in
-      let m = and→ (eqb (p % 4) 0) _ (z .1) in
+      let u = and→ (rowsFit 1 65536 p) _ (z .1) in
+      let m = and→ (eqb (p % 4) 0) _ (u .0) in
       record {
         head = eqb-true _ _ (x .0);
         branches = eqb-true _ _ (k .0);
@@ -86,13 +88,14 @@ module _ {h b r p : ℕ} where
         records-most = leb-true _ _ (l .1);
         places = eqb-true _ _ (m .0);
         places-most = leb-true _ _ (m .1);
+        names = eqb-true _ _ (u .1);
       }
 
-  pub →lengths : Lengths h b r p → true ≡ lengthsFit h b r p
+  pub →lengths : Lengths h b r p n → true ≡ lengthsFit h b r p n
   unfolding lengthsFit
   →lengths z =
       sym (→and (eq-eqb _ _ (z .head)) (→and (→and (eq-eqb _ _ (z .branches)) (le-leb _ _ (z .branches-most)))
-      (→and (→and (eq-eqb _ _ (z .records)) (le-leb _ _ (z .records-most))) (→and (eq-eqb _ _ (z .places)) (le-leb _ _ (z .places-most))))))
+      (→and (→and (eq-eqb _ _ (z .records)) (le-leb _ _ (z .records-most))) (→and (→and (eq-eqb _ _ (z .places)) (le-leb _ _ (z .places-most))) (eq-eqb _ _ (z .names))))))
 
-  pub lengths-no : (Lengths h b r p → ⊥) → false ≡ lengthsFit h b r p
-  lengths-no n = case (lengthsFit h b r p) (λ e. absurd (n (lengths→ e))) (λ e. sym e)
+  pub lengths-no : (Lengths h b r p n → ⊥) → false ≡ lengthsFit h b r p n
+  lengths-no f = case (lengthsFit h b r p n) (λ e. absurd (f (lengths→ e))) (λ e. sym e)

@@ -16,22 +16,23 @@ numbers-bytes = spelled-flat 4 (omega arith)
 pub bytes-numbers : (bs : List ℕ) → length bs % 4 ≡ 0 → ((k : ℕ) → getD bs k 0 < 256) → bytesOf (numbersOf bs) ≡ bs
 bytes-numbers = flat-spelled 4 (omega arith)
 
--- a head is its five numbers
+-- a head is its six numbers
 pub head-numbers : (h : Head) → headOf (headNumbers h) ≡ h
 head-numbers h = refl
 
-pub numbers-head : (ns : List ℕ) → length ns ≡ 5 → headNumbers (headOf ns) ≡ ns
+pub numbers-head : (ns : List ℕ) → length ns ≡ 6 → headNumbers (headOf ns) ≡ ns
 numbers-head [] l = absurd (omega arith)
 numbers-head (a ∷ []) l = absurd (omega arith)
 numbers-head (a ∷ b ∷ []) l = absurd (omega arith)
 numbers-head (a ∷ b ∷ c ∷ []) l = absurd (omega arith)
 numbers-head (a ∷ b ∷ c ∷ d ∷ []) l = absurd (omega arith)
-numbers-head (a ∷ b ∷ c ∷ d ∷ e ∷ []) l = refl
-numbers-head (a ∷ b ∷ c ∷ d ∷ e ∷ f ∷ ns) l = absurd (omega arith)
+numbers-head (a ∷ b ∷ c ∷ d ∷ e ∷ []) l = absurd (omega arith)
+numbers-head (a ∷ b ∷ c ∷ d ∷ e ∷ f ∷ []) l = refl
+numbers-head (a ∷ b ∷ c ∷ d ∷ e ∷ f ∷ g ∷ ns) l = absurd (omega arith)
 
--- twenty bytes are those of the head that they spell
-pub bytes-head : (bs : List ℕ) → length bs ≡ 20 → ((k : ℕ) → getD bs k 0 < 256) → bytesOf (headNumbers (headOf (numbersOf bs))) ≡ bs
+-- twenty-four bytes are those of the head that they spell
+pub bytes-head : (bs : List ℕ) → length bs ≡ 24 → ((k : ℕ) → getD bs k 0 < 256) → bytesOf (headNumbers (headOf (numbersOf bs))) ≡ bs
 bytes-head bs l h =
-    let n : length (numbersOf bs) ≡ 5 = length-spelled 4 (omega arith) bs ∙ omega arith in
+    let n : length (numbersOf bs) ≡ 6 = length-spelled 4 (omega arith) bs ∙ omega arith in
     let m : length bs % 4 ≡ 0 = omega arith in
     ap bytesOf (numbers-head (numbersOf bs) n) ∙ bytes-numbers bs m h

@@ -28,10 +28,10 @@ pub record Written (ns bs : List ℕ) : Type 0 where
   pub bytes : bs ≡ bytesOf ns
   pub again : numbersOf bs ≡ ns
 
--- the head's five numbers, in their order: size, branch count, record count, now, floor
+-- the head's six numbers, in their order: size, branch count, record count, now, floor, name count
 abbrev pub headNumbers : Head → List ℕ
-headNumbers h = h .size ∷ h .branches ∷ h .records ∷ h .now ∷ h .floor ∷ []
+headNumbers h = h .size ∷ h .branches ∷ h .records ∷ h .now ∷ h .floor ∷ h .names ∷ []
 
 abbrev pub headOf : List ℕ → Head
 headOf ns =
-    record { size = getD ns 0 0; branches = getD ns 1 0; records = getD ns 2 0; now = getD ns 3 0; floor = getD ns 4 0 }
+    record { size = getD ns 0 0; branches = getD ns 1 0; records = getD ns 2 0; now = getD ns 3 0; floor = getD ns 4 0; names = getD ns 5 0 }

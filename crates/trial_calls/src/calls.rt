@@ -14,8 +14,11 @@ use trial_words::layout::BRANCH_LENGTH;
 use trial_words::layout::BRANCH_TABLE;
 use trial_words::layout::Bytes;
 use trial_words::layout::HEAD;
+use trial_words::layout::HEAD_FLOOR;
 use trial_words::layout::INPUT;
 use trial_words::layout::INPUT_BYTES;
+use trial_words::layout::NAME_LENGTH;
+use trial_words::layout::NAME_TABLE;
 use trial_words::layout::Numbers;
 use trial_words::layout::PLACE_LENGTH;
 use trial_words::layout::PLACE_TABLE;
@@ -30,6 +33,7 @@ use trial_words::words::get;
 use trial_words::words::number_at;
 use trial_words::words::put;
 use trial_words::words::put_four;
+use trial_words::words::put_two;
 ghost use mathlib.Core.Path.{_≡_};
 ghost use lib.ListN.{length, getD};
 
@@ -40,12 +44,13 @@ fn head(w: &Numbers) -> Head {
         records: get(w, 2),
         now: get(w, 3),
         floor: get(w, 4),
+        names: get(w, 5),
     }
 }
 
 fn note_head(w: &mut Numbers, h: Head) {
     put_four(w, HEAD, h.size, h.branches, h.records, h.now);
-    put(w, 4, h.floor);
+    put_two(w, HEAD_FLOOR, h.floor, h.names);
 }
 
 fn number(n: usize) -> u32 {
@@ -70,6 +75,16 @@ fn table(w: &[u32], at: u32) -> [u32; 64]
 {
     let mut t = [0u32; 64];
     let start = at_most(at, w.len());
+    copy(&w[start..], &mut t);
+    t
+}
+
+// The name table, with room for a row more.
+fn name_table(w: &[u32]) -> [u32; 99]
+    ensures { λ r. ⌜ length r ≡ 99 ⌝ }
+{
+    let mut t = [0u32; 99];
+    let start = at_most(NAME_TABLE, w.len());
     copy(&w[start..], &mut t);
     t
 }
@@ -106,11 +121,12 @@ fn save(w: &mut [u32], at: u32, t: &[u32]) -> u32 {
     touched
 }
 
-fn save_tables(w: &mut Numbers, bt: &[u32; 64], rt: &[u32; 64], pt: &[u32; 64]) {
+fn save_tables(w: &mut Numbers, bt: &[u32; 64], rt: &[u32; 64], pt: &[u32; 64], nt: &[u32; 99]) {
     let branches = save(w, BRANCH_TABLE, bt);
     let records = save(w, RECORD_TABLE, rt);
     let places = save(w, PLACE_TABLE, pt);
-    put_four(w, TOUCHED, branches, records, places, 0);
+    let names = save(w, NAME_TABLE, nt);
+    put_four(w, TOUCHED, branches, records, places, names);
 }
 
 fn save_slab(b: &mut [u8], t: &[u8]) -> u32 {
@@ -125,11 +141,12 @@ fn save_answers(b: &mut [u8], t: &[u8]) {
     copy_bytes(t, &mut b[start..]);
 }
 
-// The lengths lent: of the three tables, the slab, the input and the answer area.
+// The lengths lent: of the four tables, the slab, the input and the answer area.
 struct Lengths {
     branches: u32,
     records: u32,
     places: u32,
+    names: u32,
     slab: u32,
     input: u32,
     area: u32,
@@ -140,6 +157,7 @@ fn lent_lengths(w: &Numbers) -> Lengths {
         branches: get(w, BRANCH_LENGTH),
         records: get(w, RECORD_LENGTH),
         places: get(w, PLACE_LENGTH),
+        names: get(w, NAME_LENGTH),
         slab: get(w, SLAB_LENGTH),
         input: get(w, INPUT),
         area: get(w, AREA),
@@ -153,6 +171,7 @@ fn batch_on(
     bt: &mut [u32],
     rt: &mut [u32],
     pt: &mut [u32],
+    nt: &mut [u32],
     slab: &mut [u8],
     input: &[u8],
     answers: &mut [u8],
@@ -160,6 +179,7 @@ fn batch_on(
     let lb = at_most(l.branches, bt.len());
     let lr = at_most(l.records, rt.len());
     let lp = at_most(l.places, pt.len());
+    let ln = at_most(l.names, nt.len());
     let ls = at_most(l.slab, slab.len());
     let li = at_most(l.input, input.len());
     let la = at_most(l.area, answers.len());
@@ -168,6 +188,7 @@ fn batch_on(
         &mut bt[..lb],
         &mut rt[..lr],
         &mut pt[..lp],
+        &mut nt[..ln],
         &mut slab[..ls],
         &input[..li],
         &mut answers[..la],
@@ -181,18 +202,29 @@ fn ask_on(
     bt: &mut [u32; 64],
     rt: &mut [u32; 64],
     pt: &mut [u32; 64],
+    nt: &mut [u32; 99],
     slab: &mut [u8; 4352],
     answers: &mut [u8; 4096],
 ) {
     let input = input_bytes(b);
-    let d = batch_on(head(w), lent_lengths(w), bt, rt, pt, slab, &input, answers);
+    let d = batch_on(
+        head(w),
+        lent_lengths(w),
+        bt,
+        rt,
+        pt,
+        nt,
+        slab,
+        &input,
+        answers,
+    );
     note(w, d);
     faults::put_in_kept(w, b);
 }
 
 fn save_bytes(w: &mut Numbers, b: &mut Bytes, slab: &[u8; 4352], answers: &[u8; 4096]) {
     let touched = save_slab(b, slab);
-    put(w, TOUCHED + 3, touched);
+    put(w, TOUCHED + 4, touched);
     save_answers(b, answers);
 }
 
@@ -202,22 +234,24 @@ fn ask_with(
     bt: &mut [u32; 64],
     rt: &mut [u32; 64],
     pt: &mut [u32; 64],
+    nt: &mut [u32; 99],
 ) {
     let mut slab = slab_bytes(b);
     let mut answers = blank_area();
-    ask_on(w, b, bt, rt, pt, &mut slab, &mut answers);
-    save_tables(w, bt, rt, pt);
+    ask_on(w, b, bt, rt, pt, nt, &mut slab, &mut answers);
+    save_tables(w, bt, rt, pt, nt);
     save_bytes(w, b, &slab, &answers);
 }
 
 // A batch of the bytes handed in, and what it left. Answers the stop number.
 pub fn ask(w: &mut Numbers, b: &mut Bytes) -> u32
-    ensures { λ r. ⌜ r ≡ getD (now (w .exit)) 5 0 ⌝ }
+    ensures { λ r. ⌜ r ≡ getD (now (w .exit)) 6 0 ⌝ }
 {
     let mut bt = table(w, BRANCH_TABLE);
     let mut rt = table(w, RECORD_TABLE);
     let mut pt = table(w, PLACE_TABLE);
-    ask_with(w, b, &mut bt, &mut rt, &mut pt);
+    let mut nt = name_table(w);
+    ask_with(w, b, &mut bt, &mut rt, &mut pt, &mut nt);
     number_at(w, STOP)
 }
 
@@ -229,11 +263,13 @@ fn make_on(
     bt: &mut [u32],
     rt: &mut [u32],
     pt: &mut [u32],
+    nt: &mut [u32],
     slab: &[u8],
 ) -> Made {
     let lb = at_most(l.branches, bt.len());
     let lr = at_most(l.records, rt.len());
     let lp = at_most(l.places, pt.len());
+    let ln = at_most(l.names, nt.len());
     let ls = at_most(l.slab, slab.len());
     fresh::make(
         h,
@@ -241,6 +277,7 @@ fn make_on(
         &mut bt[..lb],
         &mut rt[..lr],
         &mut pt[..lp],
+        &mut nt[..ln],
         &slab[..ls],
     )
 }
@@ -251,21 +288,32 @@ fn make_with(
     bt: &mut [u32; 64],
     rt: &mut [u32; 64],
     pt: &mut [u32; 64],
+    nt: &mut [u32; 99],
 ) {
     let slab = slab_bytes(b);
-    let made = make_on(head(w), get(w, SIZE), lent_lengths(w), bt, rt, pt, &slab);
+    let made = make_on(
+        head(w),
+        get(w, SIZE),
+        lent_lengths(w),
+        bt,
+        rt,
+        pt,
+        nt,
+        &slab,
+    );
     note_head(w, made.head);
     put(w, STOP, made.refusal);
 }
 
 // A fresh store of the sizes on trial. Its refusal is noted as the stop number. Answers it.
 pub fn make(w: &mut Numbers, b: &Bytes) -> u32
-    ensures { λ r. ⌜ r ≡ getD (now (w .exit)) 5 0 ⌝ }
+    ensures { λ r. ⌜ r ≡ getD (now (w .exit)) 6 0 ⌝ }
 {
     let mut bt = table(w, BRANCH_TABLE);
     let mut rt = table(w, RECORD_TABLE);
     let mut pt = table(w, PLACE_TABLE);
-    make_with(w, b, &mut bt, &mut rt, &mut pt);
-    save_tables(w, &bt, &rt, &pt);
+    let mut nt = name_table(w);
+    make_with(w, b, &mut bt, &mut rt, &mut pt, &mut nt);
+    save_tables(w, &bt, &rt, &pt, &nt);
     number_at(w, STOP)
 }

@@ -7,6 +7,7 @@ use trial_words::layout::CHANGES;
 use trial_words::layout::HEAD;
 use trial_words::layout::HEAD_NOW;
 use trial_words::layout::LAST;
+use trial_words::layout::NAME_TABLE;
 use trial_words::layout::Numbers;
 use trial_words::layout::PLACE_ROWS;
 use trial_words::layout::PLACE_TABLE;
@@ -29,6 +30,9 @@ fn record_numbers(w: &Numbers) -> u32 {
     get(w, RECORD_ROWS) % 4096 * 3
 }
 
+// The numbers of the first three name rows.
+const FIRST_NAMES: u32 = 9;
+
 // How many changes the family tries: each of the numbers takes eight values.
 pub fn count(w: &Numbers) -> u32
     ensures { λ r. ⌜ (getD (now (w .entry)) 57 0 ≡ 0 → r ≡ 0) ⌝ }
@@ -37,18 +41,25 @@ pub fn count(w: &Numbers) -> u32
         return 0;
     }
     let rows = plus(branch_numbers(w), record_numbers(w));
-    plus(9, plus(rows, get(w, PLACE_ROWS))) % 65536 * 8
+    plus(11 + FIRST_NAMES, plus(rows, get(w, PLACE_ROWS))) % 65536 * 8
 }
 
-// Where the c-th number stands: five of the head, four lengths, then the tables.
+// Where the c-th number stands: six of the head, five lengths, then the name rows and the other tables.
 fn place_of(w: &Numbers, c: u32) -> u32 {
-    if c < 5 {
+    if c < 6 {
         return plus(HEAD, c);
     }
-    if c < 9 {
-        return plus(BRANCH_LENGTH, minus(c, 5));
+    if c < 11 {
+        return plus(BRANCH_LENGTH, minus(c, 6));
     }
-    table_place(minus(c, 9), branch_numbers(w), record_numbers(w))
+    if c < 11 + FIRST_NAMES {
+        return plus(NAME_TABLE, minus(c, 11));
+    }
+    table_place(
+        minus(c, 11 + FIRST_NAMES),
+        branch_numbers(w),
+        record_numbers(w),
+    )
 }
 
 fn table_place(i: u32, branches: u32, records: u32) -> u32 {
@@ -78,13 +89,12 @@ fn value(now: u32, old: u32, v: u32) -> u32 {
 
 // A length is at most that of what can be lent.
 fn limited(c: u32, n: u32) -> u32 {
-    if c < 5 {
-        return n;
+    match c {
+        6..=8 => n % 65,
+        9 => n % 100,
+        10 => n % 4353,
+        _ => n,
     }
-    if c < 8 {
-        return n % 65;
-    }
-    if c == 8 { n % 4353 } else { n }
 }
 
 // The present change is made, and the number that it replaces is noted and answered.

@@ -1,5 +1,5 @@
 // Faults put into what the store gave, so that the comparison is seen to find them: one to a list, and taken out after it.
-// A number or a byte is more than the store gave, two records stand in each other's row, or a page stands in another free place.
+// A number or a byte is more than the store gave, two records or two names stand in each other's row, or a page stands in another free place.
 use trial_words::layout::ANSWERS;
 use trial_words::layout::AREA;
 use trial_words::layout::BRANCH_TABLE;
@@ -11,8 +11,11 @@ use trial_words::layout::FAULTY;
 use trial_words::layout::FRESH;
 use trial_words::layout::HEAD;
 use trial_words::layout::HEAD_BRANCHES;
+use trial_words::layout::HEAD_NAMES;
 use trial_words::layout::HEAD_NOW;
 use trial_words::layout::HEAD_RECORDS;
+use trial_words::layout::MOST_NAMES;
+use trial_words::layout::NAME_TABLE;
 use trial_words::layout::Numbers;
 use trial_words::layout::PAGE_ANSWER;
 use trial_words::layout::PLACE_ROWS;
@@ -23,7 +26,9 @@ use trial_words::layout::SLAB;
 use trial_words::layout::SPOT;
 use trial_words::layout::STOP;
 use trial_words::layout::TURN;
+use trial_words::layout::name_row;
 use trial_words::layout::record_row;
+use trial_words::request::listed;
 use trial_words::words::add;
 use trial_words::words::byte;
 use trial_words::words::get;
@@ -37,13 +42,15 @@ ghost use lib.ListN.{getD};
 
 // The faults are numbered from 1, as the program `trials` names them.
 // Where a fault can stand: an index of the table of numbers; BYTES and an index of the table of bytes; two records in each other's row;
-// a record in another free place.
+// a record in another free place; two names in each other's row.
 const BYTES: u32 = 65536;
 
 const SWAPPED: u32 = 131072;
 
 // A record's page moved to another free place: and 16 times its place, and the other one.
 const MOVED: u32 = 131073;
+
+const SWAPPED_NAMES: u32 = 131584;
 
 const NOWHERE: u32 = 4294967295;
 
@@ -55,7 +62,7 @@ fn step(w: &Numbers) -> u32 {
 fn spot(w: &Numbers, b: &Bytes, fault: u32) -> u32 {
     let turn = get(w, TURN);
     if turn == PLAY {
-        return in_batch(w, fault);
+        return in_batch(w, b, fault);
     }
     if turn == CHANGED {
         return in_refused(fault);
@@ -66,7 +73,7 @@ fn spot(w: &Numbers, b: &Bytes, fault: u32) -> u32 {
     in_page(b, fault)
 }
 
-fn in_batch(w: &Numbers, fault: u32) -> u32 {
+fn in_batch(w: &Numbers, b: &Bytes, fault: u32) -> u32 {
     match fault {
         1..=5 => plus(BYTES, plus(ANSWERS, minus(fault, 1))),
         7..=10 => plus(STOP, minus(fault, 7)),
@@ -75,7 +82,43 @@ fn in_batch(w: &Numbers, fault: u32) -> u32 {
         21 => plus(BYTES, plus(ANSWERS, get(w, plus(STOP, 3)))),
         22 => plus(BYTES, plus(ANSWERS, minus(get(w, AREA), 1))),
         40 => in_place(w, get(w, HEAD_RECORDS), largest_free(w)),
+        41..=46 => in_names(w, fault, get(w, HEAD_NAMES)),
+        47 => in_naming(b, listed(w, 0).operation),
         _ => NOWHERE,
+    }
+}
+
+// The number of names; the last name's three numbers; the row behind it; the order of the first two.
+fn in_names(w: &Numbers, fault: u32, names: u32) -> u32 {
+    if fault == 41 {
+        return HEAD_NAMES;
+    }
+    if fault == 45 {
+        return if names < MOST_NAMES {
+            name_row(names)
+        } else {
+            NOWHERE
+        };
+    }
+    if fault == 46 {
+        return if names < 2 { NOWHERE } else { SWAPPED_NAMES };
+    }
+    if names == 0 {
+        NOWHERE
+    } else {
+        plus(name_row(minus(names, 1)), minus(fault, 42))
+    }
+}
+
+// The moment that an accepted naming answers with.
+fn in_naming(b: &Bytes, operation: u32) -> u32 {
+    if operation != 6 {
+        return NOWHERE;
+    }
+    if byte(b, ANSWERS) == 0 {
+        plus(BYTES, plus(ANSWERS, 4))
+    } else {
+        NOWHERE
     }
 }
 
@@ -145,6 +188,7 @@ fn in_fresh(fault: u32) -> u32 {
         33 => RECORD_TABLE,
         34 => PLACE_TABLE,
         35 => plus(BRANCH_TABLE, 3),
+        48 => NAME_TABLE,
         _ => NOWHERE,
     }
 }
@@ -156,6 +200,7 @@ fn in_kept(fault: u32) -> u32 {
         26 => RECORD_TABLE,
         27 => PLACE_TABLE,
         28 => plus(BYTES, SLAB),
+        49 => NAME_TABLE,
         _ => NOWHERE,
     }
 }
@@ -171,6 +216,12 @@ fn swap_records(w: &mut Numbers) {
     swap(w, RECORD_TABLE, RECORD_TABLE + 3);
     swap(w, RECORD_TABLE + 1, RECORD_TABLE + 4);
     swap(w, RECORD_TABLE + 2, RECORD_TABLE + 5);
+}
+
+fn swap_names(w: &mut Numbers) {
+    swap(w, NAME_TABLE, NAME_TABLE + 3);
+    swap(w, NAME_TABLE + 1, NAME_TABLE + 4);
+    swap(w, NAME_TABLE + 2, NAME_TABLE + 5);
 }
 
 fn swap_byte(b: &mut Bytes, i: u32, j: u32) {
@@ -207,6 +258,10 @@ fn shift(w: &mut Numbers, b: &mut Bytes, at: u32, by: u32) {
     }
     if at == SWAPPED {
         swap_records(w);
+        return;
+    }
+    if at == SWAPPED_NAMES {
+        swap_names(w);
         return;
     }
     if at < MOVED + 256 {

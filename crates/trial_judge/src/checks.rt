@@ -4,14 +4,19 @@ use trial_words::layout::BRANCH_TABLE;
 use trial_words::layout::HEAD;
 use trial_words::layout::HEAD_BRANCHES;
 use trial_words::layout::HEAD_FLOOR;
+use trial_words::layout::HEAD_NAMES;
 use trial_words::layout::HEAD_NOW;
 use trial_words::layout::HEAD_RECORDS;
 use trial_words::layout::LAST;
+use trial_words::layout::MOST_NAMES;
+use trial_words::layout::NAME_LENGTH;
+use trial_words::layout::NAME_NUMBERS;
 use trial_words::layout::Numbers;
 use trial_words::layout::PLACE_LENGTH;
 use trial_words::layout::PLACE_TABLE;
 use trial_words::layout::RECORD_LENGTH;
 use trial_words::layout::SLAB_LENGTH;
+use trial_words::layout::name_row;
 use trial_words::layout::record_row;
 use trial_words::words::get;
 use trial_words::words::minus;
@@ -26,6 +31,9 @@ pub(crate) fn due(w: &Numbers) -> u32 {
         return 1;
     }
     if branches_wrong(w, get(w, HEAD_BRANCHES)) != 0 {
+        return 2;
+    }
+    if names_wrong(w, get(w, HEAD_NAMES)) != 0 {
         return 2;
     }
     if records_wrong(w, get(w, HEAD_RECORDS)) != 0 {
@@ -61,6 +69,9 @@ fn lengths_right(w: &Numbers) -> bool {
     if !between(places, 1, 65536) {
         return false;
     }
+    if get(w, NAME_LENGTH) != NAME_NUMBERS {
+        return false;
+    }
     get(w, SLAB_LENGTH) == places % 65537 * 256
 }
 
@@ -72,6 +83,9 @@ fn head_right(w: &Numbers) -> bool {
         return false;
     }
     if get(w, HEAD_RECORDS) > get(w, RECORD_LENGTH) / 3 {
+        return false;
+    }
+    if get(w, HEAD_NAMES) > MOST_NAMES {
         return false;
     }
     get(w, HEAD_FLOOR) <= get(w, HEAD_NOW)
@@ -145,6 +159,46 @@ fn holds(w: &Numbers, i: u32, moment: u32) -> u32 {
         0
     } else {
         1
+    }
+}
+
+// How many of n name rows are wrong.
+fn names_wrong(w: &Numbers, n: u32) -> u32 {
+    let mut wrong: u32 = 0;
+    for k in 0..n {
+        wrong = plus(wrong, name_wrong(w, k));
+    }
+    wrong
+}
+
+// A name's moment is sealed and inside a row, and no earlier name is the same.
+fn name_wrong(w: &Numbers, k: u32) -> u32 {
+    let moment = get(w, plus(name_row(k), 2));
+    if moment >= get(w, HEAD_NOW) {
+        return 1;
+    }
+    if holders(w, get(w, HEAD_BRANCHES), moment) == 0 {
+        return 1;
+    }
+    alike(w, k)
+}
+
+// How many rows before a name's have the same name.
+fn alike(w: &Numbers, k: u32) -> u32 {
+    let mut count: u32 = 0;
+    for j in 0..k {
+        if same_name(w, j, k) {
+            count = plus(count, 1);
+        }
+    }
+    count
+}
+
+fn same_name(w: &Numbers, j: u32, k: u32) -> bool {
+    if get(w, name_row(j)) == get(w, name_row(k)) {
+        get(w, plus(name_row(j), 1)) == get(w, plus(name_row(k), 1))
+    } else {
+        false
     }
 }
 

@@ -15,6 +15,11 @@ use trial_words::layout::HELD;
 use trial_words::layout::INPUT;
 use trial_words::layout::KEPT;
 use trial_words::layout::LAST;
+use trial_words::layout::NAME_LENGTH;
+use trial_words::layout::NAME_NUMBERS;
+use trial_words::layout::NAME_ROWS;
+use trial_words::layout::NAME_TABLE;
+use trial_words::layout::NAMES;
 use trial_words::layout::Numbers;
 use trial_words::layout::PAGE_ANSWER;
 use trial_words::layout::PLACE_LENGTH;
@@ -68,10 +73,10 @@ fn spare_set(r: Request) -> bool {
     if r.address != 0 {
         return true;
     }
-    if r.operation == 2 {
-        r.moment != 0
-    } else {
-        false
+    let operation = r.operation;
+    match operation {
+        2 | 7 => r.moment != 0,
+        _ => false,
     }
 }
 
@@ -84,9 +89,6 @@ fn unreadable(left: u32, r: Request) -> u32 {
         return 11;
     }
     if r.operation == 0 {
-        return 12;
-    }
-    if r.operation > 5 {
         return 12;
     }
     if spare_set(r) {
@@ -175,7 +177,7 @@ fn fed(w: &mut Numbers, r: Request, given: u32) -> u32 {
 }
 
 fn answered(w: &mut Numbers, refusal: u32, taken: u32, sent: u32) {
-    add(w, plus(SEEN, refusal % 16), 1);
+    add(w, plus(SEEN, refusal % 32), 1);
     add(w, ANSWERED, 1);
     add(w, TAKEN, taken);
     add(w, SENT, sent);
@@ -209,7 +211,7 @@ fn number_wrong(b: &Bytes, at: u32, number: u32) -> u32 {
 // The stop number and the three counts; the answer area past the answers is untouched.
 fn judge_report(w: &mut Numbers, b: &Bytes) {
     let due = get(w, DUE);
-    add(w, plus(SEEN, due % 16), 1);
+    add(w, plus(SEEN, due % 32), 1);
     same_numbers(w, STOP, DUE, 4);
     let sent = get(w, SENT);
     let touched = others(b, plus(ANSWERS, sent), minus(get(w, AREA), sent), BLANK);
@@ -229,12 +231,14 @@ fn same_numbers(w: &mut Numbers, i: u32, j: u32, n: u32) {
     }
 }
 
-// The store after a batch: its head, its records, and that the next batch will find its tables sound. Answers the differences in the list so far.
+// The store after a batch: its head, its records, its names, and that the next batch will find its tables sound. Answers the differences
+// in the list so far.
 pub fn judge_store(w: &mut Numbers, b: &Bytes) -> u32
     ensures { λ r. ⌜ r ≡ getD (now (w .exit)) 51 0 ⌝ }
 {
     expect_head(w);
-    same_numbers(w, HEAD, HEAD_DUE, 5);
+    same_numbers(w, HEAD, HEAD_DUE, 6);
+    same_numbers(w, NAME_TABLE, NAME_ROWS, NAME_NUMBERS);
     let wrong = records_wrong(w, b, get(w, HELD));
     same(w, wrong, 0);
     let stop = checks::due(w);
@@ -242,7 +246,7 @@ pub fn judge_store(w: &mut Numbers, b: &Bytes) -> u32
     number_at(w, WRONG)
 }
 
-// The head due: size, branches, records, now, floor.
+// The head due: size, branches, records, now, floor, names.
 fn expect_head(w: &mut Numbers) {
     let size = get(w, SIZE);
     let kept = get(w, KEPT);
@@ -256,6 +260,8 @@ fn expect_moments(w: &mut Numbers) {
     let now = trial_reference::now(w);
     let floor = trial_reference::floor(w);
     put_two(w, HEAD_DUE + 3, now, floor);
+    let names = get(w, NAMES);
+    put(w, HEAD_DUE + 5, names);
 }
 
 // How much is wrong of n records: each is a held pair, in the pair's place, with its page's bytes there. That each is there once and
@@ -301,7 +307,7 @@ fn hand_in(w: &mut Numbers, all: bool) {
 }
 
 fn keep_head(w: &mut Numbers) {
-    for k in 0..5u32 {
+    for k in 0..6u32 {
         keep_number(w, k);
     }
 }
@@ -316,10 +322,12 @@ pub fn judge_stop(w: &mut Numbers, b: &Bytes) -> u32
     ensures { λ r. ⌜ r ≡ getD (now (w .exit)) 51 0 ⌝ }
 {
     judge_report(w, b);
-    same_numbers(w, HEAD, HEAD_DUE, 5);
+    same_numbers(w, HEAD, HEAD_DUE, 6);
     let rows = plus(get(w, TOUCHED), get(w, TOUCHED + 1));
     let rest = plus(get(w, TOUCHED + 2), get(w, TOUCHED + 3));
     same(w, plus(rows, rest), 0);
+    let slab = get(w, TOUCHED + 4);
+    same(w, slab, 0);
     number_at(w, WRONG)
 }
 
@@ -331,8 +339,8 @@ pub fn judge_fresh(w: &mut Numbers) -> u32
     same(w, refusal, 0);
     let size = get(w, SIZE);
     put_four(w, HEAD_DUE, size, 1, 0, 0);
-    put(w, HEAD_DUE + 4, 0);
-    same_numbers(w, HEAD, HEAD_DUE, 5);
+    put_two(w, HEAD_DUE + 4, 0, 0);
+    same_numbers(w, HEAD, HEAD_DUE, 6);
     judge_rows(w);
     number_at(w, WRONG)
 }
@@ -346,6 +354,8 @@ fn judge_rows(w: &mut Numbers) {
     same(w, records, 0);
     let places = checks::in_use(w, PLACE_TABLE, get(w, PLACE_LENGTH));
     same(w, places, 0);
+    let names = checks::in_use(w, NAME_TABLE, get(w, NAME_LENGTH));
+    same(w, names, 0);
 }
 
 // How many of n bytes from an index on are not b.

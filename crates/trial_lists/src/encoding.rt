@@ -8,7 +8,9 @@ use trial_words::layout::Numbers;
 use trial_words::layout::TOTAL;
 use trial_words::request::Request;
 use trial_words::request::bytes_of;
+use trial_words::request::high_of;
 use trial_words::request::listed;
+use trial_words::request::low_of;
 use trial_words::words::get;
 use trial_words::words::minus;
 use trial_words::words::number_at;
@@ -52,6 +54,17 @@ fn put_bytes(b: &mut Bytes, at: u32, r: Request) {
     if r.operation == 1 {
         fill(b, plus(at, 7), 256, r.value);
     }
+    if r.operation >= 6 {
+        put_number(b, plus(at, 7), high_of(r.value));
+        put_number(b, plus(at, 11), low_of(r.value));
+    }
+}
+
+fn put_number(b: &mut Bytes, at: u32, n: u32) {
+    put_byte(b, at, n / 16777216);
+    put_byte(b, plus(at, 1), n / 65536);
+    put_byte(b, plus(at, 2), n / 256);
+    put_byte(b, plus(at, 3), n);
 }
 
 // All requests listed, as bytes, and how many of the bytes are handed in. Answers that number.

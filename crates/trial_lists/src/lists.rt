@@ -1,10 +1,12 @@
 // The lists of requests: every short one over an alphabet, and long ones from a generator.
 use trial_words::layout::AREA;
+use trial_words::layout::CALLED;
 use trial_words::layout::COUNT;
 use trial_words::layout::CUT;
 use trial_words::layout::FIRST;
 use trial_words::layout::LENGTH;
 use trial_words::layout::MODE;
+use trial_words::layout::NAMES;
 use trial_words::layout::NUMBER;
 use trial_words::layout::Numbers;
 use trial_words::layout::PAGE_ANSWER;
@@ -23,7 +25,8 @@ ghost use mathlib.Core.Path.{_≡_};
 ghost use Prim.Native.Nat.{_%_};
 ghost use lib.ListN.{length, getD};
 
-// The letters of the alphabets: the first 7, 10 or 18, or the last 5.
+// The letters of the alphabets: the first 7, 10 or 18, or 5 from the 18th on; of those that name moments, the first 7 or all 10 from the
+// 23rd on, or 5 from the 33rd on.
 fn letter(k: u32) -> Request {
     match k {
         0 => plain(1, 0, 0, 1),
@@ -48,7 +51,28 @@ fn letter(k: u32) -> Request {
         19 => plain(2, 0, 0, 0),
         20 => plain(3, 0, 0, 0),
         21 => plain(5, 0, 1, 0),
-        _ => plain(4, 0, 0, 0),
+        22 => plain(4, 0, 0, 0),
+        _ => naming_letter(minus(k, 23)),
+    }
+}
+
+fn naming_letter(k: u32) -> Request {
+    match k {
+        0 => plain(1, 0, 0, 1),
+        1 => plain(2, 0, 0, 0),
+        2 => plain(3, 0, 0, 0),
+        3 => plain(5, 0, 1, 0),
+        4 => plain(6, 0, 0, 1),
+        5 => plain(7, 0, 0, 1),
+        6 => plain(6, 0, 0, 0),
+        7 => plain(6, 0, 1, 0),
+        8 => plain(7, 0, 0, 0),
+        9 => plain(5, 0, 2, 0),
+        10 => plain(2, 0, 0, 0),
+        11 => plain(6, 0, 0, 17),
+        12 => plain(6, 0, 0, 1),
+        13 => plain(7, 0, 0, 17),
+        _ => plain(3, 0, 0, 0),
     }
 }
 
@@ -175,7 +199,27 @@ fn drawn(w: &mut Numbers) -> Request {
     if kind == 0 {
         return drawn_bad(w, address, moment);
     }
+    if get(w, CALLED) != 0 {
+        return drawn_naming(w, of_kind(kind, address, value, moment), moment);
+    }
     of_kind(kind, address, value, moment)
+}
+
+// Where names are drawn, four requests of sixteen give one, one of them at a named moment; two withdraw one; two read or revert at a
+// named moment.
+fn drawn_naming(w: &mut Numbers, r: Request, moment: u32) -> Request {
+    let kind = draw(w, SEED, 16);
+    let name = draw(w, SEED, get(w, CALLED));
+    let row = draw(w, SEED, plus(get(w, NAMES), 1));
+    let named = trial_reference::names::moment_of(w, row);
+    match kind {
+        0..=2 => plain(6, 0, moment, name),
+        3 => plain(6, 0, named, name),
+        4..=5 => plain(7, 0, 0, name),
+        6 => plain(4, 0, named, 0),
+        7 => plain(3, 0, named, 0),
+        _ => r,
+    }
 }
 
 fn past_end(kind: u32) -> u32 {

@@ -1,15 +1,19 @@
-// The reference: a complete snapshot of the volume for each moment, the held pairs, now and floor; plain, and slow on purpose.
+// The reference: a complete snapshot of the volume for each moment, the held pairs, now, floor and the names; plain, and slow on purpose.
 // Beside them it keeps which branch each moment belongs to, since a revert is refused by the number of branches kept, and the place of
-// each held pair.
+// each held pair. Readable are the moments from the floor to now and the named ones.
+pub mod names;
 pub mod places;
 
 use trial_words::layout::BASE;
+use trial_words::layout::BELOW;
 use trial_words::layout::BRANCH_ROWS;
 use trial_words::layout::FLOOR;
 use trial_words::layout::HELD;
 use trial_words::layout::KEPT;
 use trial_words::layout::LAST;
 use trial_words::layout::MADE;
+use trial_words::layout::MOST_NAMES;
+use trial_words::layout::NAMES;
 use trial_words::layout::NOW;
 use trial_words::layout::Numbers;
 use trial_words::layout::PLACE_ROWS;
@@ -17,6 +21,8 @@ use trial_words::layout::RECORD_ROWS;
 use trial_words::layout::SIZE;
 use trial_words::layout::held_at;
 use trial_words::request::Request;
+use trial_words::request::high_of;
+use trial_words::request::low_of;
 use trial_words::words::add;
 use trial_words::words::get;
 use trial_words::words::minus;
@@ -82,6 +88,7 @@ pub fn reset(w: &mut Numbers)
     put_two(w, MADE, 1, 1);
     put(w, HELD, 0);
     places::free_all(w);
+    names::forget_all(w);
     reset_first(w);
 }
 
@@ -186,6 +193,7 @@ fn see_readable(w: &mut Numbers, floor: u32, end: u32, made: u32) {
     clear_kept(w, made);
     put(w, KEPT, 0);
     see_all(w, floor, end);
+    see_named(w, get(w, NAMES));
     count_kept(w, made);
 }
 
@@ -205,6 +213,12 @@ fn clear_kept(w: &mut Numbers, made: u32) {
 fn see_all(w: &mut Numbers, floor: u32, end: u32) {
     for i in floor..end {
         see(w, i);
+    }
+}
+
+fn see_named(w: &mut Numbers, n: u32) {
+    for k in 0..n {
+        see(w, index(w, names::moment_of(w, k)));
     }
 }
 
@@ -272,19 +286,35 @@ fn release(w: &mut Numbers, i: u32, a: u32) {
     }
 }
 
+// It is counted where a revert, a read or a naming reaches below the floor.
+fn count_below(w: &mut Numbers, operation: u32, moment: u32) {
+    if moment < floor(w) {
+        add(w, BELOW + operation % 8, 1);
+    }
+}
+
 // A request that was answered and not refused. Answers the number due.
 pub fn feed(w: &mut Numbers, r: Request) -> u32
     ensures { λ n. ⌜ (r .operation ≡ 4 → n ≡ r .moment) ⌝ }
 {
     let i = index(w, r.moment);
     let operation = r.operation;
+    count_below(w, operation, r.moment);
     match operation {
         1 => write(w, r.address, r.value),
         2 => mark(w),
         3 => revert(w, i),
         4 => r.moment,
         5 => reclaim(w, i),
-        _ => 0,
+        _ => feed_name(w, operation, r.value, r.moment),
+    }
+}
+
+fn feed_name(w: &mut Numbers, operation: u32, name: u32, moment: u32) -> u32 {
+    if operation == 6 {
+        names::give(w, high_of(name), low_of(name), moment)
+    } else {
+        names::withdraw(w, high_of(name), low_of(name))
     }
 }
 
@@ -308,24 +338,22 @@ pub fn date(w: &Numbers, i: u32, a: u32) -> u32
 
 // The refusal that is due.
 pub fn refusal(w: &Numbers, r: Request) -> u32
-    ensures { λ n. ⌜ n ≤ 10 ⌝ }
+    ensures { λ n. ⌜ n ≤ 17 ⌝ }
 {
     let operation = r.operation;
     match operation {
         1 => write_refusal(w, r.address),
         2 => if now(w) == LAST { 10 } else { 0 },
         3 => revert_refusal(w, r.moment),
-        4 => if r.address >= get(w, SIZE) {
-            4
-        } else {
-            range_refusal(w, r.moment)
-        },
-        _ => range_refusal(w, r.moment),
+        4 => read_refusal(w, r.address, r.moment),
+        5 => reclaim_refusal(w, r.moment),
+        6 => naming_refusal(w, r.value, r.moment),
+        _ => withdrawal_refusal(w, r.value),
     }
 }
 
 fn write_refusal(w: &Numbers, a: u32) -> u32
-    ensures { λ n. ⌜ n ≤ 10 ⌝ }
+    ensures { λ n. ⌜ n ≤ 17 ⌝ }
 {
     if a >= get(w, SIZE) {
         return 4;
@@ -343,10 +371,19 @@ fn write_refusal(w: &Numbers, a: u32) -> u32
     }
 }
 
+// Whether a moment is not below the floor, or named.
+fn readable(w: &Numbers, moment: u32) -> bool {
+    if moment >= floor(w) {
+        true
+    } else {
+        names::is_named(w, moment)
+    }
+}
+
 fn revert_refusal(w: &Numbers, moment: u32) -> u32
-    ensures { λ n. ⌜ n ≤ 10 ⌝ }
+    ensures { λ n. ⌜ n ≤ 17 ⌝ }
 {
-    if moment < floor(w) {
+    if !readable(w, moment) {
         return 8;
     }
     if moment >= now(w) {
@@ -362,11 +399,49 @@ fn revert_refusal(w: &Numbers, moment: u32) -> u32
     }
 }
 
-fn range_refusal(w: &Numbers, moment: u32) -> u32
-    ensures { λ n. ⌜ n ≤ 10 ⌝ }
+fn read_refusal(w: &Numbers, a: u32, moment: u32) -> u32
+    ensures { λ n. ⌜ n ≤ 17 ⌝ }
+{
+    if a >= get(w, SIZE) {
+        return 4;
+    }
+    if !readable(w, moment) {
+        return 8;
+    }
+    if moment > now(w) { 9 } else { 0 }
+}
+
+// Names do not help here: what is reclaimed goes by the floor.
+fn reclaim_refusal(w: &Numbers, moment: u32) -> u32
+    ensures { λ n. ⌜ n ≤ 17 ⌝ }
 {
     if moment < floor(w) {
         return 8;
     }
     if moment > now(w) { 9 } else { 0 }
+}
+
+fn naming_refusal(w: &Numbers, name: u32, moment: u32) -> u32
+    ensures { λ n. ⌜ n ≤ 17 ⌝ }
+{
+    if !readable(w, moment) {
+        return 8;
+    }
+    if moment >= now(w) {
+        return 9;
+    }
+    if names::is_given(w, high_of(name), low_of(name)) {
+        return 15;
+    }
+    if get(w, NAMES) >= MOST_NAMES { 16 } else { 0 }
+}
+
+fn withdrawal_refusal(w: &Numbers, name: u32) -> u32
+    ensures { λ n. ⌜ n ≤ 17 ⌝ }
+{
+    if names::is_given(w, high_of(name), low_of(name)) {
+        0
+    } else {
+        17
+    }
 }

@@ -19,6 +19,7 @@ use trial_words::layout::FRESH;
 use trial_words::layout::HEAD_NOW;
 use trial_words::layout::LETTERS;
 use trial_words::layout::LISTS;
+use trial_words::layout::NAMES;
 use trial_words::layout::NOW;
 use trial_words::layout::NUMBER;
 use trial_words::layout::Numbers;
@@ -31,6 +32,7 @@ use trial_words::layout::TURN;
 use trial_words::layout::WRONG;
 use trial_words::words::add;
 use trial_words::words::get;
+use trial_words::words::minus;
 use trial_words::words::number_at;
 use trial_words::words::plus;
 use trial_words::words::put;
@@ -116,9 +118,19 @@ fn prepare(w: &mut Numbers, turn: u32) {
 
 // A read of every address at the moment of the snapshot.
 fn list_moment(w: &mut Numbers) {
-    let moment = plus(get(w, BASE), get(w, SNAPSHOT));
+    let moment = moment_read(w, get(w, SNAPSHOT));
     add(w, READ, 1);
     lists::list_reads(w, moment);
+}
+
+// The moment of a snapshot; past now those that are named.
+fn moment_read(w: &Numbers, i: u32) -> u32 {
+    let now = get(w, NOW);
+    if i > now {
+        trial_reference::names::moment_of(w, minus(i, plus(now, 1)))
+    } else {
+        plus(get(w, BASE), i)
+    }
 }
 
 fn judge_turn(w: &mut Numbers, b: &mut Bytes, turn: u32) {
@@ -138,7 +150,8 @@ fn compare(w: &mut Numbers, b: &Bytes, turn: u32) {
     }
 }
 
-// After each batch of the list every readable snapshot is read back; after the last the changes are tried.
+// After each batch of the list every readable snapshot is read back, from the floor to now and then the named ones; after the last the
+// changes are tried.
 fn advance(w: &mut Numbers, turn: u32) {
     if turn == PLAY {
         add(w, BATCHES, 1);
@@ -156,7 +169,7 @@ fn advance(w: &mut Numbers, turn: u32) {
 }
 
 fn next_snapshot(w: &mut Numbers, i: u32) {
-    if i < get(w, NOW) {
+    if i < plus(get(w, NOW), get(w, NAMES)) {
         put(w, SNAPSHOT, plus(i, 1));
     } else {
         next_batch(w, plus(get(w, BATCH), 1));

@@ -3,11 +3,11 @@ ghost use mathlib.Core.Path.{_≡_};
 ghost use Prim.Native.Nat.{_+_, _*_, _%_};
 
 // The two tables: what a trial knows and lends as numbers, and as bytes.
-pub type Numbers = [u32; 5376];
+pub type Numbers = [u32; 5632];
 
 pub type Bytes = [u8; 12288];
 
-// The store's head (5 numbers), and what its last batch reported.
+// The store's head (6 numbers), and what its last batch reported.
 pub const HEAD: u32 = 0;
 
 pub const HEAD_BRANCHES: u32 = 1;
@@ -18,16 +18,20 @@ pub const HEAD_NOW: u32 = 3;
 
 pub const HEAD_FLOOR: u32 = 4;
 
-pub const STOP: u32 = 5;
+pub const HEAD_NAMES: u32 = 5;
 
-// The lengths lent: numbers of branch rows, of record rows, of place rows, and bytes of the slab.
-pub const BRANCH_LENGTH: u32 = 9;
+pub const STOP: u32 = 6;
 
-pub const RECORD_LENGTH: u32 = 10;
+// The lengths lent: numbers of branch rows, of record rows, of place rows, of name rows, and bytes of the slab.
+pub const BRANCH_LENGTH: u32 = 10;
 
-pub const PLACE_LENGTH: u32 = 11;
+pub const RECORD_LENGTH: u32 = 11;
 
-pub const SLAB_LENGTH: u32 = 12;
+pub const PLACE_LENGTH: u32 = 12;
+
+pub const NAME_LENGTH: u32 = 13;
+
+pub const SLAB_LENGTH: u32 = 14;
 
 // The sizes on trial: pages of the volume, branch rows, record rows, place rows.
 pub const SIZE: u32 = 16;
@@ -38,7 +42,7 @@ pub const RECORD_ROWS: u32 = 18;
 
 pub const PLACE_ROWS: u32 = 19;
 
-// The reference: moments count from the base; now and floor; branches made and branches kept; held pairs.
+// The reference: moments count from the base; now and floor; branches made and branches kept; held pairs; names given.
 pub const BASE: u32 = 20;
 
 pub const NOW: u32 = 21;
@@ -50,6 +54,8 @@ pub const MADE: u32 = 23;
 pub const KEPT: u32 = 24;
 
 pub const HELD: u32 = 25;
+
+pub const NAMES: u32 = 26;
 
 // The next batch: requests listed, bytes of all, bytes handed in, bytes of the answer area, and by what the bytes are cut (0: not).
 pub const COUNT: u32 = 28;
@@ -71,7 +77,7 @@ pub const TAKEN: u32 = 34;
 
 pub const SENT: u32 = 35;
 
-// The family: how lists are made, letters, length, lists, seed, first letter; and the number of the present list.
+// The family: how lists are made, letters, length, lists, seed, first letter; the number of the present list; how many names are drawn.
 pub const MODE: u32 = 40;
 
 pub const LETTERS: u32 = 41;
@@ -85,6 +91,8 @@ pub const SEED: u32 = 44;
 pub const FIRST: u32 = 45;
 
 pub const NUMBER: u32 = 46;
+
+pub const CALLED: u32 = 47;
 
 // The counts: lists run, their batches, lists that differ, differences in the present list, snapshots read back.
 pub const RUN: u32 = 48;
@@ -120,8 +128,8 @@ pub const FAULTY: u32 = 61;
 
 pub const FAULTS: u32 = 62;
 
-// How often each refusal or stop came up.
-pub const SEEN: u32 = 64;
+// How often a moment below the floor was accepted, by operation.
+pub const BELOW: u32 = 64;
 
 // The place that the batch took last; how often another choice would have given another place, for four choices; the 16 places.
 pub const LAST_TAKEN: u32 = 37;
@@ -130,10 +138,10 @@ pub const TOLD: u32 = 92;
 
 pub const PLACES: u32 = 112;
 
-// The head that is due (5 numbers), and how much a batch changed of each table and of the slab.
+// The head that is due (6 numbers), and how much a batch changed of each table and of the slab.
 pub const HEAD_DUE: u32 = 80;
 
-pub const TOUCHED: u32 = 88;
+pub const TOUCHED: u32 = 86;
 
 // The tables that are lent to the store.
 pub const BRANCH_TABLE: u32 = 5120;
@@ -141,6 +149,13 @@ pub const BRANCH_TABLE: u32 = 5120;
 pub const RECORD_TABLE: u32 = 5184;
 
 pub const PLACE_TABLE: u32 = 5248;
+
+pub const NAME_TABLE: u32 = 5312;
+
+// The name rows of the reference (33 of three numbers, the last zero), and how often each refusal or stop came up.
+pub const NAME_ROWS: u32 = 5424;
+
+pub const SEEN: u32 = 5536;
 
 // In the table of bytes: the slab, what is handed in, and the answer area.
 pub const SLAB: u32 = 0;
@@ -166,6 +181,11 @@ pub const LAST: u32 = 4294967295;
 // A batch that has not stopped.
 pub const RUNNING: u32 = 99;
 
+// Names at most, and the numbers of their rows.
+pub const MOST_NAMES: u32 = 32;
+
+pub const NAME_NUMBERS: u32 = 96;
+
 // Bytes of an answer with a page: five, the date in four, and the page.
 pub const PAGE_ANSWER: u32 = 265;
 
@@ -190,4 +210,11 @@ pub fn record_row(i: u32) -> u32
     ensures { λ r. ⌜ r ≡ 5184 + i % 65536 * 3 ⌝ }
 {
     RECORD_TABLE + i % 65536 * 3
+}
+
+// A row of the name table lent.
+pub fn name_row(k: u32) -> u32
+    ensures { λ r. ⌜ r ≡ 5312 + k % 33 * 3 ⌝ }
+{
+    NAME_TABLE + k % 33 * 3
 }

@@ -6,7 +6,7 @@ use crate::words::plus;
 use crate::words::put;
 use crate::words::put_four;
 ghost use mathlib.Core.Path.{_≡_};
-ghost use Prim.Native.Nat.{_+_, _*_, _%_};
+ghost use Prim.Native.Nat.{_+_, _*_, _/_, _%_, _≤_};
 ghost use lib.ListN.{length, getD};
 
 pub struct Request {
@@ -50,9 +50,25 @@ pub fn put_request(w: &mut Numbers, k: u32, r: Request)
     put(w, plus(at, 4), r.spare);
 }
 
-// Bytes of a request: a write's page follows it.
-pub fn bytes_of(r: Request) -> u32
-    ensures { λ n. ⌜ (r .operation ≡ 1 → n ≡ 263) ⌝ }
+// The value of a naming or of a withdrawal is the number of a name: its two numbers, with eight different bytes.
+pub fn high_of(name: u32) -> u32
+    ensures { λ n. ⌜ n ≡ name / 16 % 16 * 16909060 ⌝ }
 {
-    if r.operation == 1 { 263 } else { 7 }
+    name / 16 % 16 * 16909060
+}
+
+pub fn low_of(name: u32) -> u32
+    ensures { λ n. ⌜ n ≡ name % 16 * 84281096 ⌝ }
+{
+    name % 16 * 84281096
+}
+
+// Bytes of a request: a write's page follows it, or a name.
+pub fn bytes_of(r: Request) -> u32
+    ensures { λ n. ⌜ (r .operation ≡ 1 → n ≡ 263) × (6 ≤ r .operation → n ≡ 15) ⌝ }
+{
+    if r.operation == 1 {
+        return 263;
+    }
+    if r.operation >= 6 { 15 } else { 7 }
 }

@@ -7,7 +7,7 @@ ghost use lib.ListN.{length, getD};
 
 // The number at an index that the table has.
 pub fn number_at(t: &Numbers, i: u32) -> u32
-    requires { ⌜ i < 5376 ⌝ }
+    requires { ⌜ i < 5632 ⌝ }
     ensures { λ r. ⌜ r ≡ getD (now (t .entry)) i 0 ⌝ }
 {
     let k = i as usize;
@@ -16,16 +16,16 @@ pub fn number_at(t: &Numbers, i: u32) -> u32
 
 // The number at an index; 0 past the end.
 pub fn get(t: &Numbers, i: u32) -> u32
-    ensures { λ r. ⌜ (i < 5376 → r ≡ getD (now (t .entry)) i 0) ⌝ }
+    ensures { λ r. ⌜ (i < 5632 → r ≡ getD (now (t .entry)) i 0) ⌝ }
 {
-    if i < 5376 { number_at(t, i) } else { 0 }
+    if i < 5632 { number_at(t, i) } else { 0 }
 }
 
 pub fn put(t: &mut Numbers, i: u32, v: u32)
     ensures { λ _. ⌜ length (now (t .exit)) ≡ length (now (t .entry)) ⌝ }
 {
     let k = i as usize;
-    if k < 5376 {
+    if k < 5632 {
         t[k] = v;
     }
 }

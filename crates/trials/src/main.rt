@@ -4,19 +4,23 @@ mod text;
 use trial_turns::family;
 use trial_words::layout::BASE;
 use trial_words::layout::BATCHES;
+use trial_words::layout::BELOW;
 use trial_words::layout::BRANCH_LENGTH;
+use trial_words::layout::CALLED;
 use trial_words::layout::CHANGES;
 use trial_words::layout::DIFFER;
 use trial_words::layout::FAULT;
 use trial_words::layout::FAULTS;
 use trial_words::layout::FIRST;
 use trial_words::layout::MODE;
+use trial_words::layout::NAME_NUMBERS;
 use trial_words::layout::Numbers;
 use trial_words::layout::READ;
 use trial_words::layout::RUN;
 use trial_words::layout::SEED;
 use trial_words::layout::SEEN;
 use trial_words::layout::SIZE;
+use trial_words::layout::SLAB_LENGTH;
 use trial_words::layout::TOLD;
 use trial_words::words::get;
 use trial_words::words::plus;
@@ -33,13 +37,13 @@ struct Spread {
     lists: u32,
 }
 
-// The family of the faults is the last.
-const FAULT_FAMILY: u32 = 20;
+// The families of the faults are the last: without names, and with names.
+const FAULT_FAMILY: u32 = 30;
 
-fn numbers() -> [u32; 5376]
-    ensures { λ r. ⌜ length r ≡ 5376 ⌝ }
+fn numbers() -> [u32; 5632]
+    ensures { λ r. ⌜ length r ≡ 5632 ⌝ }
 {
-    [0u32; 5376]
+    [0u32; 5632]
 }
 
 fn lists_of(mode: u32, letters: u32, length: u32, lists: u32) -> Spread {
@@ -74,7 +78,25 @@ fn in_family(k: u32) -> Spread {
         17 => lists_of(2, 1, 10, 1000),
         18 => lists_of(0, 18, 2, 324),
         19 => lists_of(2, 1, 40, 100),
-        _ => lists_of(0, 18, 2, 324),
+        30 => lists_of(0, 18, 2, 324),
+        _ => with_names(k),
+    }
+}
+
+// The families with names. Three requests without a page are at most 45 bytes, their answers 15: 125 lists with 46 cuts, or 16 areas.
+fn with_names(k: u32) -> Spread {
+    match k {
+        20 => lists_of(0, 10, 5, 100000),
+        21 => lists_of(1, 10, 5, 100000),
+        22 => lists_of(1, 7, 6, 117649),
+        23 => lists_of(3, 5, 3, 5750),
+        24 => lists_of(5, 5, 3, 2000),
+        25 => lists_of(2, 1, 40, 1000),
+        26 => lists_of(2, 1, 40, 1000),
+        27 => lists_of(2, 1, 10, 1000),
+        28 => lists_of(0, 7, 3, 343),
+        29 => lists_of(2, 1, 40, 50),
+        _ => lists_of(0, 10, 3, 1000),
     }
 }
 
@@ -82,23 +104,34 @@ fn in_family(k: u32) -> Spread {
 fn store_of(k: u32) -> u32 {
     match k {
         13 => 0,
-        10 | 15 | 17 => 2,
-        16 | 19 => 3,
+        10 | 15 | 17 | 27 => 2,
+        16 | 19 | 26 | 29 => 3,
         _ => 1,
     }
 }
 
-// The first letter of its alphabet, and its first moment.
+// The first letter of its alphabet, how many names it draws, and its first moment.
 fn first_of(k: u32) -> u32 {
     match k {
         11 | 12 => 18,
+        20..=22 => 23,
+        23 | 24 => 33,
+        28 | 31 => 23,
+        _ => 0,
+    }
+}
+
+fn called_of(k: u32) -> u32 {
+    match k {
+        25 | 27 => 4,
+        26 | 29 => 128,
         _ => 0,
     }
 }
 
 fn base_of(k: u32) -> u32 {
     match k {
-        17 => 4294967285,
+        17 | 27 => 4294967285,
         _ => 0,
     }
 }
@@ -106,7 +139,7 @@ fn base_of(k: u32) -> u32 {
 // Whether changes are tried, and whether its line is written, or it counts with the next.
 fn changes_of(k: u32) -> u32 {
     match k {
-        18 | 19 => 1,
+        18 | 19 | 28 | 29 => 1,
         _ => 0,
     }
 }
@@ -137,14 +170,16 @@ fn set_lengths(w: &mut Numbers, size: u32, branches: u32, records: u32, places: 
         branches % 65536 * 3,
         records % 65536 * 3,
         places,
-        places % 65536 * 256,
+        NAME_NUMBERS,
     );
+    put(w, SLAB_LENGTH, places % 65536 * 256);
 }
 
 fn set_family(w: &mut Numbers, k: u32) {
     let l = in_family(k);
     put_four(w, MODE, l.mode, l.letters, l.length, l.lists);
     put(w, FIRST, first_of(k));
+    put(w, CALLED, called_of(k));
     put(w, BASE, base_of(k));
     put(w, CHANGES, changes_of(k));
     set_sizes(w, store_of(k));
@@ -159,7 +194,7 @@ fn run_family(w: &mut Numbers, k: u32) {
 }
 
 fn run_families(w: &mut Numbers) {
-    for k in 0..20u32 {
+    for k in 0..30u32 {
         run_family(w, k);
     }
 }
@@ -206,22 +241,44 @@ fn say_told(w: &Numbers) {
     io::write_all(1, b"\n");
 }
 
+// How often a moment below the floor was accepted, since it is named.
+fn say_below(w: &Numbers) {
+    io::write_all(1, b"a moment below the floor was reverted to");
+    say_count(w, BELOW + 3);
+    io::write_all(1, b", read");
+    say_count(w, BELOW + 4);
+    io::write_all(1, b", named again");
+    say_count(w, BELOW + 6);
+    io::write_all(1, b"\n");
+}
+
 fn say_seen(w: &Numbers) {
-    for k in 1..15u32 {
+    for k in 1..18u32 {
         say_count(w, plus(SEEN, k));
     }
 }
 
 // The faults in what a batch on a changed store leaves.
 fn in_refused(fault: u32) -> u32 {
-    if fault < 23 {
-        return 0;
+    match fault {
+        23..=29 => 1,
+        49 => 1,
+        _ => 0,
     }
-    if fault < 30 { 1 } else { 0 }
 }
 
-// All lists of two letters of 18, with a fault in what the store gave.
+// Faults from the 41st on are of names.
+fn fault_family(fault: u32) -> u32 {
+    if fault < 41 {
+        FAULT_FAMILY
+    } else {
+        FAULT_FAMILY + 1
+    }
+}
+
+// All lists of two letters of 18, or of three of the 10 with names, with a fault in what the store gave.
 fn with_fault(w: &mut Numbers, fault: u32) {
+    set_family(w, fault_family(fault));
     put(w, FAULT, fault);
     put(w, CHANGES, in_refused(fault));
     family(w);
@@ -232,7 +289,7 @@ fn with_fault(w: &mut Numbers, fault: u32) {
 }
 
 fn all_faults(w: &mut Numbers) {
-    for fault in 1..41u32 {
+    for fault in 1..50u32 {
         with_fault(w, fault);
     }
 }
@@ -241,10 +298,10 @@ fn main() {
     let mut w = numbers();
     put(&mut w, SEED, 20260);
     run_families(&mut w);
-    io::write_all(1, b"refusals and stops 1 to 14 came up:");
+    io::write_all(1, b"refusals and stops 1 to 17 came up:");
     say_seen(&w);
     io::write_all(1, b"\n");
     say_told(&w);
-    set_family(&mut w, FAULT_FAMILY);
+    say_below(&w);
     all_faults(&mut w);
 }

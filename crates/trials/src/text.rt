@@ -17,7 +17,17 @@ drawn, 6 branch rows\n\
 drawn, 16 branch rows\n\
 drawn, up to the last moment\n\
 18 letters, length 2, each number of the store changed\n\
-drawn, 16 branch rows, each number of the store changed";
+drawn, 16 branch rows, each number of the store changed\n\
+10 letters with names, length 5, a batch each\n\
+10 letters with names, length 5, one batch\n\
+7 letters with names, length 6, one batch\n\
+5 letters with names, length 3, one batch, every cut\n\
+5 letters with names, length 3, one batch, every answer area\n\
+drawn, 4 names, 3 branch rows\n\
+drawn, 128 names, 16 branch rows\n\
+drawn, 4 names, up to the last moment\n\
+7 letters with names, length 3, each number of the store changed\n\
+drawn, 128 names, 16 branch rows, each number of the store changed";
     let line: u32 = if k < 7 { 0 } else { minus(k, 6) };
     say_line(names, line);
     io::write_all(1, b": ");
@@ -54,7 +64,16 @@ the place rows of a fresh store\n\
 the other branch rows of a fresh store\n\
 the first byte of a date read back\nthe second byte of a date read back\n\
 the third byte of a date read back\nthe last byte of a date read back\n\
-the place of the last record, another free one";
+the place of the last record, another free one\n\
+the head's names\n\
+the first number of the last name\n\
+the second number of the last name\n\
+the moment of the last name\n\
+the name row behind the last\n\
+the order of the first two names\n\
+the moment that a naming answers with\n\
+the name rows of a fresh store\n\
+the name rows of a refused store";
     io::write_all(1, b"a fault in ");
     say_line(names, fault);
     io::write_all(1, b": put into ");

@@ -1,10 +1,11 @@
 -- What the request reader's result stands for.
 use mathlib.Core.List.{List}
-use Prim.Native.Nat.{ℕ}
-use lib.ListN.{take, drop}
+use mathlib.Core.Path.{_≡_}
+use Prim.Native.Nat.{ℕ, _≤_}
+use lib.ListN.{length, take, drop}
 use Rattle.model.specs.Wire as model
 use Rattle.wire.specs.declared.Request.{Request}
-use Rattle.wire.specs.declared.Request.the-variants.{Write, Mark, Revert, ReadAt, Reclaim}
+use Rattle.wire.specs.declared.Request.the-variants.{Write, Mark, Revert, ReadAt, Reclaim, Give, Withdraw}
 use Rattle.wire.specs.declared.Parsed.{Parsed}
 use Rattle.wire.specs.declared.Parsed.the-variants.{End, Stop, One}
 
@@ -15,6 +16,13 @@ requestOf part Mark = model.mark
 requestOf part (Revert m) = model.revert m
 requestOf part (ReadAt a m) = model.readAt a m
 requestOf part (Reclaim m) = model.reclaim m
+requestOf part (Give n) = model.give n
+requestOf part (Withdraw high low) = model.withdraw high low
+
+-- the 8 bytes behind the seven, where there are so many, are the name of these two numbers
+pub record Spells (part : List ℕ) (high low : ℕ) : Type 0 where
+  pub high-is : 15 ≤ length part → high ≡ model.highOf (drop 7 part)
+  pub low-is : 15 ≤ length part → low ≡ model.lowOf (drop 7 part)
 
 -- the end of the batch, a stop number, or a request with its length in bytes
 abbrev pub parsedOf : List ℕ → Parsed → model.Parsed

@@ -1,4 +1,5 @@
 // Requests and answers as bytes: the request reader and the answer writer.
+use model::Name;
 use rows::Found;
 use rows::Outcome;
 ghost use mathlib.Core.Path.{_≡_};
@@ -6,20 +7,22 @@ ghost use mathlib.Core.Bool.{cond};
 ghost use mathlib.Core.List.{List};
 ghost use lib.Dec.{eqb, leb};
 ghost use Prim.Native.Nat.{ℕ, _+_, _*_, _≤_, _<_};
-ghost use lib.ListN.{length, drop};
+ghost use lib.ListN.{length, take, drop};
 ghost use Rattle.model.specs.Store.{pageAt};
 ghost use Rattle.model.specs.Wire.{number, bytes, byOperation, parse};
 ghost use Rattle.rows.specs.View.{foundOf};
-ghost use Rattle.wire.specs.Requests.{parsedOf};
+ghost use Rattle.wire.specs.Requests.{parsedOf, Spells};
 ghost use Rattle.wire.specs.Answers.{headBytes, inFront, Lies, sent};
 
-// A request; a write's page stays in the input, behind the seven bytes.
+// A request; a write's page stays in the input, behind the seven bytes; a name is read as two numbers.
 pub enum Request {
     Write(u32),
     Mark,
     Revert(u32),
     ReadAt(u32, u32),
     Reclaim(u32),
+    Give(Name),
+    Withdraw(u32, u32),
 }
 
 // What stands at the front of an input: its end, a stop number, or a request with its length in bytes.
@@ -57,32 +60,60 @@ fn short(q: Request, unused: u64) -> Parsed
     Parsed::Stop(13)
 }
 
-// A request whose page follows; left is what the input has behind the seven bytes.
-fn paged(q: Request, unused: u64, left: usize) -> Parsed
-    ensures { λ r. ⌜ r ≡ cond (eqb unused 0) (cond (leb 256 left) (Parsed.One q 263) (Parsed.Stop 11)) (Parsed.Stop 13) ⌝ }
+// A request that more bytes follow; left is what the input has behind the seven bytes.
+fn followed(q: Request, unused: u64, left: usize, more: usize) -> Parsed
+    requires { ⌜ more ≤ 256 ⌝ }
+    ensures { λ r. ⌜ r ≡ cond (eqb unused 0) (cond (leb more left) (Parsed.One q (7 + more)) (Parsed.Stop 11)) (Parsed.Stop 13) ⌝ }
 {
     let spare = unused != 0;
-    let cut = left < 256;
+    let cut = left < more;
     if spare {
         Parsed::Stop(13)
     } else if cut {
         Parsed::Stop(11)
     } else {
-        Parsed::One(q, 263)
+        Parsed::One(q, 7 + more)
     }
 }
 
-// The request of an operation with its fields.
-fn by_operation(operation: u64, a: u64, m: u64, spare: u64, left: usize) -> Parsed
+// The number that the 8 bytes behind the seven spell; 0 where there are fewer.
+fn name_number(part: &[u8]) -> u64
+    ensures { λ r. ⌜ (15 ≤ length (now (part .entry)) → r ≡ number 0 (take 8 (drop 7 (now (part .entry))))) ⌝ }
+{
+    if part.len() < 15 {
+        return 0;
+    }
+    get_number(&part[7..15])
+}
+
+// The request of an operation with its fields; high and low are the numbers of the name behind the seven bytes.
+fn by_operation(
+    operation: u64,
+    a: u64,
+    m: u64,
+    spare: u64,
+    left: usize,
+    high: u32,
+    low: u32,
+) -> Parsed
     requires { ⌜ (a < 65536) × (m < 4294967296) × (spare < 32) ⌝ }
-    ensures { λ r. ⌜ ((part : List ℕ) → length part ≡ 7 + left → parsedOf part r ≡ byOperation operation a m spare (drop 7 part)) ⌝ }
+    ensures { λ r. ⌜ ((part : List ℕ) → length part ≡ 7 + left → Spells part high low → parsedOf part r ≡ byOperation operation a m spare (drop 7 part)) ⌝ }
 {
     match operation {
-        1 => paged(Request::Write(a as u32), m + spare, left),
+        1 => followed(Request::Write(a as u32), m + spare, left, 256),
         2 => short(Request::Mark, a + m + spare),
         3 => short(Request::Revert(m as u32), a + spare),
         4 => short(Request::ReadAt(a as u32, m as u32), spare),
         5 => short(Request::Reclaim(m as u32), a + spare),
+        6 => {
+            let name = Name {
+                high,
+                low,
+                moment: m as u32,
+            };
+            followed(Request::Give(name), a + spare, left, 8)
+        }
+        7 => followed(Request::Withdraw(high, low), a + m + spare, left, 8),
         _ => Parsed::Stop(12),
     }
 }
@@ -98,12 +129,15 @@ pub fn read_request(part: &[u8]) -> Parsed
         return Parsed::Stop(11);
     }
     let n = get_number(&part[..7]);
+    let name = name_number(part);
     by_operation(
         n / 9007199254740992 % 8,
         n / 137438953472 % 65536,
         n / 32 % 4294967296,
         n % 32,
         part.len() - 7,
+        (name / 4294967296 % 4294967296) as u32,
+        (name % 4294967296) as u32,
     )
 }
 

@@ -2,3 +2,4 @@ pub mod Session
 pub mod Refusals
 pub mod Dates
 pub mod Packed
+pub mod Names

@@ -1,4 +1,4 @@
--- The fourteen refusals by their small examples, and the order in which they are tested, as one table through the bytes of a batch; and the fact that it holds.
+-- Refusals 1 to 14 by their small examples, and the order in which they are tested, as one table through the bytes of a batch; and the fact that it holds.
 use Prim.Native.Nat.{ℕ, _*_}
 use mathlib.Core.Path.{_≡_, refl}
 use mathlib.Core.List.{List, [], _∷_, _++_}
@@ -7,9 +7,9 @@ use lib.Dec.{eqb}
 use lib.ListN.{length, replicate}
 use Rattle.model.specs.declared.Branch.{Branch}
 use Rattle.model.specs.declared.Record.{Record}
-use Rattle.model.specs.Store.{Store, open-end, keep, any, branches, newest, records, pageAt, withPage, zero-record}
+use Rattle.model.specs.Store.{Store, open-end, keep, any, branches, newest, records, names, pageAt, withPage, zero-record, zero-name}
 use Rattle.model.specs.Lookup.{isReadable, holds, ancestry, within, latest, firstFound, lookup, anyUpTo, isGiven, inAncestry, isAncestor}
-use Rattle.model.specs.Soundness.{sizesAllowed, inRange, chained, branchesSound, precedes, ascending, placed, used, recordsSound, tableCheck}
+use Rattle.model.specs.Soundness.{sizesAllowed, inRange, chained, branchesSound, namesSound, rowsSound, precedes, ascending, placed, used, recordsSound, tableCheck}
 use Rattle.model.specs.Wire.{write, revert, readAt, number, bytes, packed, byOperation, parse, requestBytes, answerBytes}
 use Rattle.model.specs.Step.{firstFree, before, inserted, doWrite, doMark, branched, doRevert, doRead, reclaimed, doReclaim, step}
 use Rattle.model.specs.Fresh.{fresh}
@@ -31,14 +31,15 @@ holds-all (c ∷ cs) =
     let r : Run = batch (c .store) (c .input) (c .space) in
     eqb (r .stop) (c .stop) && (eqb (length (r .log)) (c .answered) && (sameList (r .out) (c .out) && holds-all cs))
 
--- a sound store of A 6, by its branch rows, records, places, now and floor
+-- a store of A 6 without names, by its branch rows, records, places, now and floor
 abbrev pub storeWith : List Branch → List Record → List ℕ → ℕ → ℕ → ℕ → Store
 storeWith bs rs ps recs now floor =
     record {
-      head = record { size = 6; branches = length bs; records = recs; now = now; floor = floor };
+      head = record { size = 6; branches = length bs; records = recs; now = now; floor = floor; names = 0 };
       branchRows = bs;
       recordRows = rs;
       placeRows = ps;
+      nameRows = replicate 32 zero-name;
       slab = replicate (256 * length ps) 7;
     }
 
@@ -113,8 +114,8 @@ stops =
     ∷ record { store = plain 0 0; input = 0x40 ∷ 0x00 ∷ 0x00 ∷ []; space = 99; stop = 11; answered = 0; out = [] }
     ∷ record { store = plain 0 0; input = 0x00 ∷ 0x00 ∷ 0x00 ∷ []; space = 0; stop = 11; answered = 0; out = [] }
     ∷ record { store = plain 0 0; input = replicate 7 0; space = 0; stop = 12; answered = 0; out = [] }
-    ∷ record { store = plain 0 0; input = 0xC0 ∷ replicate 6 0; space = 99; stop = 12; answered = 0; out = [] }
-    ∷ record { store = plain 0 0; input = replicate 7 255; space = 99; stop = 12; answered = 0; out = [] }
+    ∷ record { store = plain 0 0; input = 0x1F ∷ replicate 6 255; space = 99; stop = 12; answered = 0; out = [] }
+    ∷ record { store = plain 0 0; input = replicate 7 255; space = 99; stop = 13; answered = 0; out = [] }
     ∷ record { store = plain 0 0; input = 0x40 ∷ 0x00 ∷ 0x00 ∷ 0x00 ∷ 0x00 ∷ 0x00 ∷ 0x01 ∷ []; space = 0; stop = 13; answered = 0; out = [] }
     ∷ record { store = plain 0 0; input = 0x40 ∷ 0x00 ∷ 0x20 ∷ 0x00 ∷ 0x00 ∷ 0x00 ∷ 0x00 ∷ []; space = 99; stop = 13; answered = 0; out = [] }
     ∷ record { store = plain 0 0; input = 0x20 ∷ 0x00 ∷ 0x00 ∷ 0x00 ∷ 0x00 ∷ 0x00 ∷ 0x20 ∷ []; space = 99; stop = 13; answered = 0; out = [] }
@@ -129,34 +130,37 @@ stops =
     ∷ record { store = fresh 64 2 1 1 (replicate 256 0); input = marks ++ (reverts 0 ++ reads 2); space = 99; stop = 0; answered = 3; out = says 0 ++ (says 1 ++ says 2) }
     ∷ []
 
--- a fresh store: volume size, rows of branches, records and places, bytes of the slab, and its refusal
+-- a fresh store: volume size, rows of branches, records, places and names, bytes of the slab, and its refusal
 pub record Sizes : Type 0 where
   pub size : ℕ
   pub branchRows : ℕ
   pub recordRows : ℕ
   pub placeRows : ℕ
+  pub nameRows : ℕ
   pub slabBytes : ℕ
   pub allowed : Bool
 
 abbrev pub sizes : List Sizes
 sizes =
-    record { size = 1; branchRows = 1; recordRows = 1; placeRows = 1; slabBytes = 256; allowed = true }
-    ∷ record { size = 65536; branchRows = 4096; recordRows = 65536; placeRows = 65536; slabBytes = 16777216; allowed = true }
-    ∷ record { size = 0; branchRows = 1; recordRows = 1; placeRows = 1; slabBytes = 256; allowed = false }
-    ∷ record { size = 65537; branchRows = 1; recordRows = 1; placeRows = 1; slabBytes = 256; allowed = false }
-    ∷ record { size = 1; branchRows = 0; recordRows = 1; placeRows = 1; slabBytes = 256; allowed = false }
-    ∷ record { size = 1; branchRows = 4097; recordRows = 1; placeRows = 1; slabBytes = 256; allowed = false }
-    ∷ record { size = 1; branchRows = 1; recordRows = 65537; placeRows = 1; slabBytes = 256; allowed = false }
-    ∷ record { size = 1; branchRows = 1; recordRows = 1; placeRows = 0; slabBytes = 0; allowed = false }
-    ∷ record { size = 1; branchRows = 1; recordRows = 1; placeRows = 65537; slabBytes = 16777472; allowed = false }
-    ∷ record { size = 1; branchRows = 1; recordRows = 1; placeRows = 2; slabBytes = 511; allowed = false }
-    ∷ record { size = 1; branchRows = 1; recordRows = 1; placeRows = 2; slabBytes = 513; allowed = false }
+    record { size = 1; branchRows = 1; recordRows = 1; placeRows = 1; nameRows = 32; slabBytes = 256; allowed = true }
+    ∷ record { size = 65536; branchRows = 4096; recordRows = 65536; placeRows = 65536; nameRows = 32; slabBytes = 16777216; allowed = true }
+    ∷ record { size = 0; branchRows = 1; recordRows = 1; placeRows = 1; nameRows = 32; slabBytes = 256; allowed = false }
+    ∷ record { size = 65537; branchRows = 1; recordRows = 1; placeRows = 1; nameRows = 32; slabBytes = 256; allowed = false }
+    ∷ record { size = 1; branchRows = 0; recordRows = 1; placeRows = 1; nameRows = 32; slabBytes = 256; allowed = false }
+    ∷ record { size = 1; branchRows = 4097; recordRows = 1; placeRows = 1; nameRows = 32; slabBytes = 256; allowed = false }
+    ∷ record { size = 1; branchRows = 1; recordRows = 65537; placeRows = 1; nameRows = 32; slabBytes = 256; allowed = false }
+    ∷ record { size = 1; branchRows = 1; recordRows = 1; placeRows = 0; nameRows = 32; slabBytes = 0; allowed = false }
+    ∷ record { size = 1; branchRows = 1; recordRows = 1; placeRows = 65537; nameRows = 32; slabBytes = 16777472; allowed = false }
+    ∷ record { size = 1; branchRows = 1; recordRows = 1; placeRows = 2; nameRows = 32; slabBytes = 511; allowed = false }
+    ∷ record { size = 1; branchRows = 1; recordRows = 1; placeRows = 2; nameRows = 32; slabBytes = 513; allowed = false }
+    ∷ record { size = 1; branchRows = 1; recordRows = 1; placeRows = 1; nameRows = 31; slabBytes = 256; allowed = false }
+    ∷ record { size = 1; branchRows = 1; recordRows = 1; placeRows = 1; nameRows = 33; slabBytes = 256; allowed = false }
     ∷ []
 
 pub holds-sizes : List Sizes → Bool
 holds-sizes [] = true
 holds-sizes (z ∷ zs) =
-    sameTest (sizesAllowed (z .size) (z .branchRows) (z .recordRows) (z .placeRows) (z .slabBytes)) (z .allowed) && holds-sizes zs
+    sameTest (sizesAllowed (z .size) (z .branchRows) (z .recordRows) (z .placeRows) (z .nameRows) (z .slabBytes)) (z .allowed) && holds-sizes zs
   where
     sameTest : Bool → Bool → Bool
     sameTest true b = b
@@ -167,5 +171,5 @@ unfolding holds-sizes sizesAllowed
 fresh-sizes = refl
 
 pub refusals : holds-all (checks ++ (requests ++ stops)) ≡ true
-unfolding holds-all keep any branches newest records pageAt withPage holds ancestry within latest firstFound lookup anyUpTo isGiven inAncestry isAncestor sizesAllowed inRange chained branchesSound precedes ascending placed used recordsSound tableCheck number bytes packed byOperation parse requestBytes answerBytes firstFree before inserted doWrite doMark branched doRevert doRead reclaimed doReclaim step fresh run batch isReadable
+unfolding holds-all keep any branches newest records names pageAt withPage holds ancestry within latest firstFound lookup anyUpTo isGiven inAncestry isAncestor sizesAllowed inRange chained branchesSound namesSound rowsSound precedes ascending placed used recordsSound tableCheck number bytes packed byOperation parse requestBytes answerBytes firstFree before inserted doWrite doMark branched doRevert doRead reclaimed doReclaim step fresh run batch isReadable
 refusals = refl

@@ -5,9 +5,9 @@ use mathlib.Core.List.{List, [], _∷_, map}
 use mathlib.Core.Bool.{Bool, true, false, _&&_}
 use lib.Dec.{eqb}
 use lib.ListN.{replicate}
-use Rattle.model.specs.Store.{Store, keep, any, branches, newest, records, pageAt, withPage}
+use Rattle.model.specs.Store.{Store, keep, any, branches, newest, records, names, pageAt, withPage}
 use Rattle.model.specs.Lookup.{isReadable, holds, ancestry, within, latest, firstFound, lookup, anyUpTo, isGiven, inAncestry, isAncestor}
-use Rattle.model.specs.Soundness.{sizesAllowed, inRange, chained, branchesSound, precedes, ascending, placed, used, recordsSound, tableCheck}
+use Rattle.model.specs.Soundness.{sizesAllowed, inRange, chained, branchesSound, namesSound, rowsSound, precedes, ascending, placed, used, recordsSound, tableCheck}
 use Rattle.model.specs.Wire.{number, bytes, packed, byOperation, parse, answerBytes}
 use Rattle.model.specs.Step.{firstFree, before, inserted, doWrite, doMark, branched, doRevert, doRead, reclaimed, doReclaim, step}
 use Rattle.model.specs.Fresh.{fresh, programStore}
@@ -57,7 +57,7 @@ pub record Row : Type 0 where
   pub count : ℕ
 
 -- each request as a batch of its own, on the store that the last one left
-pub agrees : Store → List Row → Bool
+unfoldable pub agrees : Store → List Row → Bool
 agrees s [] = true
 agrees s (e ∷ es) =
     let r : Run = batch s (e .ask) 265 in
@@ -102,10 +102,10 @@ p12 =
     ∷ record { ask = reverts 0; said = says 1; starts = 0 ∷ 2 ∷ []; count = 0 }
     ∷ []
 
-pub all-agree : Store → List (List Row) → Bool
+unfoldable pub all-agree : Store → List (List Row) → Bool
 all-agree s [] = true
 all-agree s (t ∷ ts) = agrees s t && all-agree s ts
 
 pub session : all-agree (programStore (replicate 32768 0)) (p1-to-10 ∷ p11 ∷ p12 ∷ []) ≡ true
-unfolding agrees all-agree keep any branches newest records pageAt withPage holds ancestry within latest firstFound lookup anyUpTo isGiven inAncestry isAncestor sizesAllowed inRange chained branchesSound precedes ascending placed used recordsSound tableCheck number bytes packed byOperation parse answerBytes firstFree before inserted doWrite doMark branched doRevert doRead reclaimed doReclaim step fresh run batch isReadable
+unfolding agrees all-agree keep any branches newest records names pageAt withPage holds ancestry within latest firstFound lookup anyUpTo isGiven inAncestry isAncestor sizesAllowed inRange chained branchesSound namesSound rowsSound precedes ascending placed used recordsSound tableCheck number bytes packed byOperation parse answerBytes firstFree before inserted doWrite doMark branched doRevert doRead reclaimed doReclaim step fresh run batch isReadable
 session = refl

@@ -23,7 +23,7 @@ use Rattle.model.proofs.Base.{case}
 use Rattle.model.proofs.Latest.{precedes→, →precedes}
 use Rattle.model.proofs.Places.{getD-map-lt, shifted-low, shifted-high, firstFree→}
 use Rattle.rows.specs.Rows.{recordRowsOf, RecordsLaid}
-use Rattle.rows.proofs.Laws.{branch-kind, record-kind}
+use Rattle.rows.proofs.Laws.{branch-kind, record-kind, name-kind}
 use Rattle.rows.proofs.Relaid.{laid-own, laid-rows}
 use Rattle.rows.proofs.View.{within-own, leaves-all, carried}
 use Rattle.rows.specs.declared.Outcome.{Outcome}
@@ -226,7 +226,7 @@ module _ (head : Head) (t : Tables) (a : ℕ) (page : List ℕ) (r : Outcome) wh
         let x : before (record { address = a; moment = head .now; place = p }) (take (head .records) (recordRowsOf (t .records))) ≡ at = s .row p in
         let eu′ : recordRowsOf u ≡ putIn at (record { address = a; moment = head .now; place = p }) (take (head .records) (recordRowsOf (t .records))) ++ drop (head .records + 1) (recordRowsOf (t .records)) =
         laid-rows record-kind eu lu in
-        leaves-all (rw (q, lt-ltb _ _ room, f, x, eu′, ev, ew, z)) (rw q) (record { branches = laid-own branch-kind (t .branches); records = rw eu′ eu })
+        leaves-all (rw (q, lt-ltb _ _ room, f, x, eu′, ev, ew, z)) (rw q) (record { branches = laid-own branch-kind (t .branches); records = rw eu′ eu; names = laid-own name-kind (t .names) })
 
   -- and the whole write
   pub write-refused : r ≡ refusedWith head 4 → head .size ≤ a → Carried head t (write a page) r t
@@ -238,7 +238,8 @@ module _ (head : Head) (t : Tables) (a : ℕ) (page : List ℕ) (r : Outcome) wh
       → Carried head t (write a page) r (withSlab w t)
   unfolding step doWrite recordGiven records
   write-over w x q h e d =
-      carried head t (write a page) (rw (q, lt-ltb _ _ h, e, d)) (rw q) (record { branches = laid-own branch-kind (t .branches); records = laid-own record-kind (t .records) })
+      carried head t (write a page) (rw (q, lt-ltb _ _ h, e, d)) (rw q)
+      (record { branches = laid-own branch-kind (t .branches); records = laid-own record-kind (t .records); names = laid-own name-kind (t .names) })
 
   -- where no record stands, it is the write of a new one
   pub write-else : {u : Tables} → a < head .size → latest (take (head .records) (recordRowsOf (t .records))) a (head .now) (head .now) ≡ none

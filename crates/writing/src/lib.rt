@@ -154,6 +154,7 @@ fn write_new(
         records: head.records + 1,
         now: present,
         floor: head.floor,
+        names: head.names,
     };
     rows::accepted(after, present)
 }

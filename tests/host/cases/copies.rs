@@ -1,4 +1,5 @@
-//! Copies of a store: head, tables and the slab up to the last page in use (document 02, Two).
+//! Copies of a store: head, tables, of the name table the counted rows, and the slab up to the last page in use (document 02,
+//! Two and Three).
 
 use crate::draw::*;
 use crate::packed::rounds;
@@ -13,6 +14,7 @@ struct Counted {
     /// Copies without the end of the slab, and copies with free places before it.
     shorter: u64,
     with_gaps: u64,
+    with_names: u64,
     reads: u64,
     pages: u64,
 }
@@ -21,7 +23,8 @@ struct Counted {
 fn all_reads(run: &Run) -> Vec<u8> {
     let outlook = run.outlook();
     let mut bytes = Vec::new();
-    for moment in outlook.floor..=outlook.now {
+    let named = outlook.names.iter().map(|name| u64::from(name.moment));
+    for moment in (outlook.floor..=outlook.now).chain(named.filter(|moment| *moment < outlook.floor)) {
         for address in 0..outlook.size {
             bytes.extend(read(address, moment));
         }
@@ -51,7 +54,7 @@ fn copy_and_read(run: &mut Run, draw: &mut Draw, pile: &mut Option<Pile>, counte
     let read = run.batch_beside(pile, &reads, &area);
     let original = run.areas.clone();
 
-    let mix = &MIXES[draw.below(4) as usize];
+    let mix = &MIXES[draw.below(MIXES.len() as u64) as usize];
     let more = drawn_batch(draw, mix, &mut run.outlook(), 16, 5);
     let more_area = drawn_answer_area(draw, &original, &more);
     let mut after = original.clone();
@@ -65,10 +68,13 @@ fn copy_and_read(run: &mut Run, draw: &mut Draw, pile: &mut Option<Pile>, counte
         assert!(read_of_copy == read, "the reads of a copy are answered as those of the store");
         let served = run.batch(&more, &more_area, |_, _| {});
         if !larger {
-            // The slab is the copy's own; all else is as in the store.
+            // The slab and the name rows that are not counted are the copy's own; all else is as in the store.
             assert!(served == (report, answers.clone()), "a copy answers as the store does");
             let slab = run.areas.slab.clone();
-            run.host.compare(&Areas { slab, ..after.clone() });
+            let counted = NAME_ROW_BYTES * run.head(5) as usize;
+            let mut names = run.areas.names.clone();
+            names[..counted].copy_from_slice(&after.names[..counted]);
+            run.host.compare(&Areas { slab, names, ..after.clone() });
         }
         run.lend(original.clone());
         counted.copies += 1;
@@ -78,6 +84,7 @@ fn copy_and_read(run: &mut Run, draw: &mut Draw, pile: &mut Option<Pile>, counte
     let places = rows(&original).places;
     let used = places.iter().filter(|place| **place != 0).count();
     counted.shorter += 2 * u64::from(slab_in_use(&original.places) < original.slab.len());
+    counted.with_names += 2 * u64::from(!rows(&original).counted_names().is_empty());
     counted.with_gaps += 2 * u64::from(PAGE * used < slab_in_use(&original.places));
 
     run.batch_beside(pile, &more, &more_area);
@@ -109,7 +116,8 @@ pub fn copies(host: &mut dyn Host, seed: u64, count: u64) {
     }
     host.end("copies up to the last page in use");
     host.note(&format!(
-        "{} copies, {} of them without the end of the slab, {} with free places before it; {} reads, {} pages found",
-        counted.copies, counted.shorter, counted.with_gaps, counted.reads, counted.pages
+        "{} copies, {} of them without the end of the slab, {} with free places before it, {} with names; {} reads, \
+         {} pages found",
+        counted.copies, counted.shorter, counted.with_gaps, counted.with_names, counted.reads, counted.pages
     ));
 }

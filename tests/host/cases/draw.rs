@@ -1,6 +1,6 @@
 //! Numbers drawn from a seed, and requests made of them.
 
-use reference::{OPEN_END, PAGE};
+use reference::{Name, NAME_BYTES, OPEN_END, PAGE};
 
 pub struct Draw(u64);
 
@@ -77,6 +77,14 @@ pub fn reclaim(moment: u64) -> Vec<u8> {
     packed(5, 0, moment, 0)
 }
 
+pub fn name(moment: u64, name: &[u8]) -> Vec<u8> {
+    [&packed(6, 0, moment, 0), name].concat()
+}
+
+pub fn withdraw(name: &[u8]) -> Vec<u8> {
+    [&packed(7, 0, 0, 0), name].concat()
+}
+
 /// How often each request is drawn.
 pub struct Mix {
     pub write: u64,
@@ -84,22 +92,32 @@ pub struct Mix {
     pub revert: u64,
     pub read: u64,
     pub reclaim: u64,
+    pub name: u64,
+    pub withdraw: u64,
 }
 
-pub const MIXES: [Mix; 4] = [
-    Mix { write: 30, mark: 20, revert: 20, read: 15, reclaim: 15 },
-    Mix { write: 25, mark: 10, revert: 45, read: 10, reclaim: 10 },
-    Mix { write: 35, mark: 10, revert: 20, read: 5, reclaim: 30 },
-    Mix { write: 40, mark: 5, revert: 15, read: 30, reclaim: 10 },
+pub const MIXES: [Mix; 5] = [
+    Mix { write: 30, mark: 20, revert: 20, read: 15, reclaim: 15, name: 10, withdraw: 6 },
+    Mix { write: 25, mark: 10, revert: 45, read: 10, reclaim: 10, name: 4, withdraw: 1 },
+    Mix { write: 35, mark: 10, revert: 20, read: 5, reclaim: 30, name: 10, withdraw: 2 },
+    Mix { write: 40, mark: 5, revert: 15, read: 30, reclaim: 10, name: 4, withdraw: 4 },
+    Mix { write: 20, mark: 15, revert: 10, read: 15, reclaim: 20, name: 40, withdraw: 8 },
 ];
 
-/// What the requests of a list are drawn from; now and floor are guessed ahead over the batch.
+/// What the requests of a list are drawn from; now, floor and names are guessed ahead over the batch.
 pub struct Outlook {
     pub size: u64,
     /// Most addresses are drawn below this.
     pub few: u64,
     pub now: u64,
     pub floor: u64,
+    pub names: Vec<Name>,
+}
+
+impl Outlook {
+    fn can_read(&self, moment: u64) -> bool {
+        self.floor <= moment && moment <= self.now || self.names.iter().any(|name| u64::from(name.moment) == moment)
+    }
 }
 
 pub fn drawn_address(draw: &mut Draw, outlook: &Outlook) -> u64 {
@@ -113,6 +131,9 @@ pub fn drawn_address(draw: &mut Draw, outlook: &Outlook) -> u64 {
 
 pub fn drawn_moment(draw: &mut Draw, outlook: &Outlook) -> u64 {
     let (now, floor) = (outlook.now, outlook.floor);
+    if !outlook.names.is_empty() && draw.percent(30) {
+        return drawn_named(draw, outlook);
+    }
     match draw.below(24) {
         0 => floor.saturating_sub(1),
         1 => now + 1,
@@ -125,8 +146,36 @@ pub fn drawn_moment(draw: &mut Draw, outlook: &Outlook) -> u64 {
     }
 }
 
+/// A named moment, or one beside it.
+fn drawn_named(draw: &mut Draw, outlook: &Outlook) -> u64 {
+    let named = u64::from(outlook.names[draw.below(outlook.names.len() as u64) as usize].moment);
+    match draw.below(10) {
+        0 => named + 1,
+        1 => named.saturating_sub(1),
+        _ => named,
+    }
+}
+
+/// A name: one of few, or one that is given, or nearly so, or any.
+pub fn drawn_name(draw: &mut Draw, outlook: &Outlook) -> [u8; NAME_BYTES] {
+    let mut name = [b'n'; NAME_BYTES];
+    let byte = draw.below(NAME_BYTES as u64) as usize;
+    match draw.below(12) {
+        0 => name.fill(0),
+        1 => name.copy_from_slice(&draw.bytes(NAME_BYTES)),
+        2..=4 if !outlook.names.is_empty() => {
+            name = outlook.names[draw.below(outlook.names.len() as u64) as usize].bytes;
+            if draw.percent(40) {
+                name[byte] ^= draw.one_bit(8) as u8;
+            }
+        }
+        _ => name[byte] = draw.below(12) as u8,
+    }
+    name
+}
+
 pub fn drawn_request(draw: &mut Draw, mix: &Mix, outlook: &mut Outlook) -> Vec<u8> {
-    let all = mix.write + mix.mark + mix.revert + mix.read + mix.reclaim;
+    let all = mix.write + mix.mark + mix.revert + mix.read + mix.reclaim + mix.name + mix.withdraw;
     let mut chosen = draw.below(all);
     if chosen < mix.write {
         let page = draw.bytes(PAGE);
@@ -140,7 +189,7 @@ pub fn drawn_request(draw: &mut Draw, mix: &Mix, outlook: &mut Outlook) -> Vec<u
     chosen -= mix.mark;
     if chosen < mix.revert {
         let moment = drawn_moment(draw, outlook);
-        if outlook.floor <= moment && moment < outlook.now {
+        if outlook.can_read(moment) && moment < outlook.now {
             outlook.now = (outlook.now + 1).min(u64::from(OPEN_END));
         }
         return revert(moment);
@@ -149,6 +198,24 @@ pub fn drawn_request(draw: &mut Draw, mix: &Mix, outlook: &mut Outlook) -> Vec<u
     if chosen < mix.read {
         let address = drawn_address(draw, outlook);
         return read(address, drawn_moment(draw, outlook));
+    }
+    chosen -= mix.read;
+    if chosen < mix.name {
+        let moment = drawn_moment(draw, outlook);
+        let bytes = drawn_name(draw, outlook);
+        if outlook.can_read(moment) && moment < outlook.now {
+            outlook.names.push(Name { bytes, moment: moment as u32 });
+        }
+        return name(moment, &bytes);
+    }
+    chosen -= mix.name;
+    if chosen < mix.withdraw {
+        let mut bytes = drawn_name(draw, outlook);
+        if !outlook.names.is_empty() && draw.percent(70) {
+            bytes = outlook.names[draw.below(outlook.names.len() as u64) as usize].bytes;
+        }
+        outlook.names.retain(|row| row.bytes != bytes);
+        return withdraw(&bytes);
     }
     // Most reclaims lift the floor by little, so that there is something to revert to.
     let moment = match draw.below(8) {
@@ -163,13 +230,14 @@ pub fn drawn_request(draw: &mut Draw, mix: &Mix, outlook: &mut Outlook) -> Vec<u
     reclaim(moment)
 }
 
-/// Seven bytes that are no request, or one with a field set that it does not use.
+/// Seven bytes that are no request, or one with a field set that it does not use, or one without its page or name.
 pub fn drawn_fault(draw: &mut Draw) -> Vec<u8> {
-    match draw.below(5) {
-        0 => packed(draw.one_of(&[0, 6, 7]), 0, 0, 0),
-        1 => packed(draw.within(1, 5), 0, 0, draw.one_bit(5)),
-        2 => packed(draw.one_of(&[2, 3, 5]), draw.one_bit(16), 0, 0),
-        3 => packed(draw.one_of(&[1, 2]), 0, draw.one_bit(32), 0),
+    match draw.below(6) {
+        0 => packed(0, 0, 0, 0),
+        1 => packed(draw.within(1, 7), 0, 0, draw.one_bit(5)),
+        2 => packed(draw.one_of(&[2, 3, 5, 6, 7]), draw.one_bit(16), 0, 0),
+        3 => packed(draw.one_of(&[1, 2, 7]), 0, draw.one_bit(32), 0),
+        4 => packed(draw.one_of(&[1, 6, 7]), 0, 0, 0),
         _ => draw.bytes(7),
     }
 }

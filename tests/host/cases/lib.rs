@@ -6,11 +6,13 @@ use reference::*;
 
 mod copies;
 mod draw;
+mod names;
 mod packed;
 mod tables;
 
 use copies::copies;
 use draw::*;
+use names::names;
 use packed::packed;
 use tables::*;
 
@@ -19,7 +21,7 @@ pub trait Host {
     /// From here on the lent areas have these lengths and bytes.
     fn lend(&mut self, areas: &Areas);
     /// From here on a copy of the lent areas is lent. It is laid onto areas of these lengths and bytes: head and
-    /// tables, and of the slab the bytes in use.
+    /// tables, of the name table the counted rows, and of the slab the bytes in use.
     fn copy_onto(&mut self, onto: &Areas);
     /// Calls for a fresh store; the result that the reference gives.
     fn fresh(&mut self, size: u32, result: u32);
@@ -60,15 +62,18 @@ impl<'a> Run<'a> {
         self.areas = areas;
     }
 
-    /// Goes on with a copy, laid onto these areas. Of the slab it has the pages up to the last that a record has.
+    /// Goes on with a copy, laid onto these areas. Of the slab it has the pages up to the last that a record has, of the
+    /// name rows the counted ones.
     fn copy_onto(&mut self, mut onto: Areas) {
         self.host.copy_onto(&onto);
         let places = rows(&self.areas).counted_records().iter().map(|record| record.place as usize + 1).max();
         let in_use = PAGE * places.unwrap_or(0);
+        let named = NAME_ROW_BYTES * self.head(5) as usize;
         onto.head.copy_from_slice(&self.areas.head);
         onto.branches[..self.areas.branches.len()].copy_from_slice(&self.areas.branches);
         onto.records[..self.areas.records.len()].copy_from_slice(&self.areas.records);
         onto.places[..self.areas.places.len()].copy_from_slice(&self.areas.places);
+        onto.names[..named].copy_from_slice(&self.areas.names[..named]);
         onto.slab[..in_use].copy_from_slice(&self.areas.slab[..in_use]);
         self.host.compare(&onto);
         self.areas = onto;
@@ -113,13 +118,16 @@ impl<'a> Run<'a> {
     }
 
     fn outlook(&self) -> Outlook {
-        Outlook {
-            size: u64::from(self.head(0)),
-            few: if self.areas.records.len() > 1_000 { 60 } else { 5 },
-            now: u64::from(self.head(3)),
-            floor: u64::from(self.head(4)),
-        }
+        outlook_of(&self.areas, if self.areas.records.len() > 1_000 { 60 } else { 5 })
     }
+}
+
+/// What requests to a store in these areas, which are sound, are drawn from.
+fn outlook_of(areas: &Areas, few: u64) -> Outlook {
+    let head = |index| u64::from(number_at(&areas.head, index));
+    let rows = areas.names.chunks_exact(NAME_ROW_BYTES).take(head(5) as usize);
+    let names = rows.map(|row| Name { bytes: name_at(row), moment: number_at(row, 2) }).collect();
+    Outlook { size: head(0), few, now: head(3), floor: head(4), names }
 }
 
 /// No fewer bytes than the answers of these requests take.
@@ -127,10 +135,13 @@ fn most_answer_bytes(bytes: &[u8]) -> usize {
     let mut at = 0;
     let mut most = 16;
     while at < bytes.len() {
-        let writes = bytes[at] >> 5 == 1;
-        let reads = bytes[at] >> 5 == 4;
-        at += if writes { 7 + PAGE } else { 7 };
-        most += if reads { PAGE_ANSWER_BYTES } else { ANSWER_BYTES };
+        let operation = bytes[at] >> 5;
+        at += match operation {
+            1 => 7 + PAGE,
+            6 | 7 => 7 + NAME_BYTES,
+            _ => 7,
+        };
+        most += if operation == 4 { PAGE_ANSWER_BYTES } else { ANSWER_BYTES };
     }
     most
 }
@@ -177,11 +188,12 @@ fn run_batches(run: &mut Run, draw: &mut Draw, batches: u64, most: u64, pile: &m
     }
 }
 
-/// A read of every address below the size and below 6, at every readable moment, a few hundred at most.
+/// A read of every address below the size and below 6, at every readable moment, a few hundred at most, and at the named ones.
 fn read_all(run: &mut Run, draw: &mut Draw, pile: &mut Option<Pile>) {
     let outlook = run.outlook();
     let mut bytes = Vec::new();
-    for moment in outlook.floor..=outlook.now.min(outlook.floor + 60) {
+    let named = outlook.names.iter().map(|name| u64::from(name.moment));
+    for moment in (outlook.floor..=outlook.now.min(outlook.floor + 60)).chain(named) {
         for address in 0..outlook.size.min(6) {
             bytes.extend(read(address, moment));
         }
@@ -210,6 +222,30 @@ pub fn examples(host: &mut dyn Host, seed: u64) {
     let draw = &mut Draw::new(seed);
     let page = |letter: u8| [letter; PAGE];
     let usual = (64, 16, 128, 128);
+    let named = vec![
+        write(5, &page(b'A')),
+        mark(),
+        name(0, b"as built"),
+        write(5, &page(b'B')),
+        name(1, b"too late"),
+        mark(),
+        name(1, b"as built"),
+        withdraw(b"not this"),
+        reclaim(2),
+        read(5, 0),
+        read(5, 1),
+        reclaim(0),
+        name(0, b"the same"),
+        name(1, b"not this"),
+        revert(0),
+        read(5, 3),
+        withdraw(b"as built"),
+        read(5, 0),
+        withdraw(b"the same"),
+        read(5, 0),
+        revert(0),
+        reclaim(2),
+    ];
     let session = vec![
         read(5, 0),
         write(5, &page(b'A')),
@@ -232,6 +268,7 @@ pub fn examples(host: &mut dyn Host, seed: u64) {
     ];
     let lists = [
         (usual, session),
+        (usual, named),
         (usual, vec![write(5, &page(b'A')), write(5, &page(b'B'))]),
         (usual, vec![mark(), revert(1), revert(0)]),
         (usual, vec![[mark(), revert(0), read(5, 2)].concat()]),
@@ -242,6 +279,14 @@ pub fn examples(host: &mut dyn Host, seed: u64) {
         ((6, 1, 1, 1), vec![[mark(), mark(), mark(), reclaim(3)].concat(), read(0, 2)]),
         ((6, 2, 1, 1), vec![[mark(), mark(), mark(), mark()].concat(), revert(4)]),
         ((6, 1, 1, 1), vec![vec![0x40, 0, 0], vec![0; 7], vec![0x40, 0, 0, 0, 0, 0, 1]]),
+        (
+            (6, 1, 1, 1),
+            vec![mark(), name(0, b"cut shor"), name(0, b"cut sho"), name(0, b""), withdraw(b""), withdraw(b"cut sho")],
+        ),
+        (
+            (6, 1, 1, 1),
+            vec![vec![0xC0, 0, 0, 0, 0, 0, 1], vec![0xC0, 0, 0x20, 0, 0, 0, 0], vec![0xE0, 0, 0, 0, 0, 0, 0x20]],
+        ),
     ];
     for ((size, branches, records, places), batches) in lists {
         let mut run = Run::fresh_of(host, draw, &Sizes { size, branches, records, places });
@@ -328,6 +373,7 @@ pub fn damaged_tables(host: &mut dyn Host, seed: u64, count: u64) {
         let draw = &mut Draw::new(seed ^ (table + 1).wrapping_mul(0x1656_67B1_9E37_79F9));
         let sizes = drawn_sizes(draw);
         let mut areas = drawn_sound(draw, &sizes);
+        let names = outlook_of(&areas, 5).names;
         damage(draw, &mut areas);
         let mut run = Run { host: &mut *host, areas: Areas::default(), always: true };
         run.lend(areas);
@@ -336,8 +382,8 @@ pub fn damaged_tables(host: &mut dyn Host, seed: u64, count: u64) {
             run.fresh(size);
         }
         // A head that is no head is no outlook either.
-        let mut outlook = Outlook { size: u64::from(sizes.size), few: 5, now: 6, floor: 2 };
-        let mix = &MIXES[draw.below(4) as usize];
+        let mut outlook = Outlook { size: u64::from(sizes.size), few: 5, now: 6, floor: 2, names };
+        let mix = &MIXES[draw.below(MIXES.len() as u64) as usize];
         let bytes = drawn_batch(draw, mix, &mut outlook, 8, 5);
         let area = drawn_answer_area(draw, &run.areas, &bytes);
         let (report, _) = run.batch(&bytes, &area, |_, _| {});
@@ -373,7 +419,7 @@ pub fn edge_sizes(host: &mut dyn Host, seed: u64) {
             if result != 0 {
                 // A head and first rows that would do, were it not for the lengths.
                 let mut areas = run.areas.clone();
-                for (index, number) in [size, 1, 0, 3, 1].iter().enumerate() {
+                for (index, number) in [size, 1, 0, 3, 1, 0].iter().enumerate() {
                     set_number_at(&mut areas.head, index, *number);
                 }
                 if branches > 0 {
@@ -389,22 +435,39 @@ pub fn edge_sizes(host: &mut dyn Host, seed: u64) {
             run.batch(&bytes, &area, |_, _| {});
         }
     }
+    lengths_of_head_and_names(host, draw);
     host.end("largest sizes");
+}
+
+/// Heads and name tables of other lengths, by bytes, by numbers and by rows; all else would do.
+fn lengths_of_head_and_names(host: &mut dyn Host, draw: &mut Draw) {
+    let heads = [0, 4, 19, 20, 21, 23, 25, 27, 28, 32];
+    let names = [0, 1, 4, 12, 24, 360, 372, 376, 380, 383, 385, 388, 392, 396, 408, 768];
+    for (which, length) in heads.map(|length| (0, length)).into_iter().chain(names.map(|length| (4, length))) {
+        let sizes = Sizes { size: 5, branches: 3, records: 3, places: 3 };
+        let mut run = Run::fresh_of(host, draw, &sizes);
+        run.batch(&[mark(), name(0, b"a state.")].concat(), &[0x33; 10], |_, _| {});
+        let mut areas = run.areas.clone();
+        area_of(&mut areas, which).resize(length, 0);
+        run.lend(areas);
+        run.batch(&mark(), &[0x33; 9], |_, _| {});
+        run.fresh(5);
+    }
 }
 
 /// Every area empty in turn, and a batch with more requests and bytes than 16 bits count.
 pub fn empty_areas(host: &mut dyn Host, seed: u64) {
     let draw = &mut Draw::new(seed);
-    for which in 0..7 {
+    for which in 0..8 {
         let sizes = Sizes { size: 5, branches: 3, records: 3, places: 3 };
         let mut run = Run::fresh_of(host, draw, &sizes);
         let mut areas = run.areas.clone();
-        if which < 5 {
+        if which < 6 {
             area_of(&mut areas, which).clear();
         }
         run.lend(areas);
-        let bytes = if which == 5 { Vec::new() } else { mark() };
-        let area = if which == 6 { Vec::new() } else { draw.bytes(9) };
+        let bytes = if which == 6 { Vec::new() } else { mark() };
+        let area = if which == 7 { Vec::new() } else { draw.bytes(9) };
         run.batch(&bytes, &area, |_, _| {});
         run.fresh(5);
     }
@@ -429,12 +492,16 @@ pub fn full_tables(host: &mut dyn Host, seed: u64, count: u64) {
         run.lend(areas);
         let outlook = run.outlook();
         let mut bytes = Vec::new();
+        let any_name = |draw: &mut Draw| outlook.names[draw.below(outlook.names.len() as u64) as usize];
         for _ in 0..6 {
             bytes.extend(write(draw.below(65_536), &draw.bytes(PAGE)));
             bytes.extend(read(draw.below(65_536), draw.within(outlook.floor, outlook.now)));
+            bytes.extend(read(draw.below(400), u64::from(any_name(draw).moment)));
             bytes.extend(mark());
             bytes.extend(revert(draw.within(outlook.floor, outlook.now)));
+            bytes.extend(name(u64::from(any_name(draw).moment), &drawn_name(draw, &outlook)));
         }
+        bytes.extend(revert(u64::from(any_name(draw).moment)));
         for step in [0, 5, 40] {
             bytes.extend(reclaim((outlook.floor + step).min(outlook.now)));
         }
@@ -442,6 +509,8 @@ pub fn full_tables(host: &mut dyn Host, seed: u64, count: u64) {
             bytes.extend(write(draw.below(65_536), &draw.bytes(PAGE)));
             bytes.extend(revert(draw.within(outlook.now - 2, outlook.now)));
             bytes.extend(read(draw.below(65_536), outlook.now));
+            bytes.extend(withdraw(&any_name(draw).bytes));
+            bytes.extend(name(outlook.now - draw.within(0, 200), &drawn_name(draw, &outlook)));
         }
         bytes.extend(reclaim(outlook.now));
         let area = draw.bytes(20_000);
@@ -464,8 +533,9 @@ pub fn full_tables(host: &mut dyn Host, seed: u64, count: u64) {
 /// A hundred years are 5,218 weeks. Weekly changes of one group of settings over full tables: writes to
 /// some of the group's 128 pages and a mark; now and then a set-back, some of them undone weeks later;
 /// every month a reclaim that leaves a year, in some decades ten, and a few writes behind it. In the last
-/// decades the record table gets full now and then. The lent areas are compared every `interval` weeks, answers and counts
-/// after every call.
+/// decades the record table gets full now and then. Twice a year the state is commissioned, by a name; names are withdrawn
+/// after a year or more, most of them below the floor by then. Every week is read at a named moment, and some set-backs go to
+/// one. The lent areas are compared every `interval` weeks, answers and counts after every call.
 pub fn hundred_years(host: &mut dyn Host, seed: u64, weeks: u64, interval: u64) {
     let draw = &mut Draw::new(seed);
     let sizes = Sizes { size: 65_536, branches: 4_096, records: 65_536, places: 65_536 };
@@ -507,7 +577,10 @@ pub fn hundred_years(host: &mut dyn Host, seed: u64, weeks: u64, interval: u64) 
                 undo = None;
             }
             None if draw.percent(25) => {
-                let moment = now.saturating_sub(draw.within(1, 30)).max(outlook.floor);
+                let mut moment = now.saturating_sub(draw.within(1, 30)).max(outlook.floor);
+                if !outlook.names.is_empty() && draw.percent(10) {
+                    moment = u64::from(outlook.names[draw.below(outlook.names.len() as u64) as usize].moment);
+                }
                 bytes.extend(revert(moment));
                 if draw.percent(50) {
                     undo_at = Some(week + draw.within(1, 8));
@@ -515,6 +588,7 @@ pub fn hundred_years(host: &mut dyn Host, seed: u64, weeks: u64, interval: u64) 
             }
             _ => {}
         }
+        bytes.extend(names_of_week(draw, &outlook, week));
         if week % 13 % 4 == 3 {
             let years = if week / 522 % 3 == 1 { 10 } else { 1 };
             bytes.extend(reclaim(now.saturating_sub(65 * years).max(outlook.floor)));
@@ -540,8 +614,31 @@ pub fn hundred_years(host: &mut dyn Host, seed: u64, weeks: u64, interval: u64) 
     host.end(&format!("weekly changes, {weeks} weeks"));
 }
 
+/// Reads at a named moment; every half year a new name; now and then one withdrawn, mostly the oldest.
+fn names_of_week(draw: &mut Draw, outlook: &Outlook, week: u64) -> Vec<u8> {
+    let mut bytes = Vec::new();
+    if !outlook.names.is_empty() {
+        let named = outlook.names[draw.below(outlook.names.len() as u64) as usize];
+        for _ in 0..3 {
+            bytes.extend(read(draw.below(65_536), u64::from(named.moment)));
+        }
+    }
+    if week % 26 == 5 {
+        let moment = draw.within(outlook.now.saturating_sub(20).max(outlook.floor), outlook.now);
+        bytes.extend(name(moment, &(week / 26).to_be_bytes()));
+    }
+    if week % 26 == 9 && outlook.names.len() > 2 && draw.percent(90) {
+        let row = if draw.percent(75) { 0 } else { draw.below(outlook.names.len() as u64) };
+        bytes.extend(withdraw(&outlook.names[row as usize].bytes));
+    }
+    bytes
+}
+
 // ---------------------------------------------------------------------------------------------
 // Counting
+
+/// More than the largest number that is a refusal or a stop.
+pub const NUMBERS: usize = 32;
 
 #[derive(Default)]
 pub struct Counts {
@@ -549,8 +646,8 @@ pub struct Counts {
     pub compared: u64,
     pub differ: u64,
     pub answered: u64,
-    pub stops: [u64; 16],
-    pub refusals: [u64; 16],
+    pub stops: [u64; NUMBERS],
+    pub refusals: [u64; NUMBERS],
 }
 
 /// All families, in order. `scale` is in hundredths of the usual number of cases.
@@ -568,6 +665,9 @@ pub fn all(host: &mut dyn Host, seed: u64, scale: u64, families: &str) {
     }
     if chosen("packed") {
         packed(host, seed, part(4_000), part(20));
+    }
+    if chosen("names") {
+        names(host, seed, part(3_000));
     }
     if chosen("copies") {
         copies(host, seed, part(1_500));

@@ -1,10 +1,10 @@
 //! Writes the cases to standard output, for a host in another language. Every number is eight bytes,
 //! least significant first; an area is its length and its bytes. Records:
-//! L head branches records places slab       lend areas of these bytes
-//! Y head branches records places slab       lend a copy, laid onto these bytes
+//! L head branches records places names slab lend areas of these bytes
+//! Y head branches records places names slab lend a copy, laid onto these bytes
 //! F size result                             a fresh store
 //! B batch area stop answered request-bytes answer-bytes after    a batch
-//! C head branches records places slab       the lent areas as they must be
+//! C head branches records places names slab the lent areas as they must be
 //! E name                                    the end of a family
 //! N line                                    more to say of it
 //! Z differences                             the end: differences between reference and pile of pictures
@@ -40,7 +40,7 @@ impl Written {
     }
 
     fn areas(&mut self, areas: &Areas) {
-        for area in [&areas.head, &areas.branches, &areas.records, &areas.places, &areas.slab] {
+        for area in [&areas.head, &areas.branches, &areas.records, &areas.places, &areas.names, &areas.slab] {
             self.area(area);
         }
     }

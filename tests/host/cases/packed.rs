@@ -3,7 +3,7 @@
 
 use crate::draw::*;
 use crate::tables::Sizes;
-use crate::{most_answer_bytes, Host, Run};
+use crate::{most_answer_bytes, outlook_of, Host, Run};
 use reference::pictures::Pile;
 use reference::*;
 
@@ -84,8 +84,7 @@ impl Draft {
     }
 
     fn outlook(&self) -> Outlook {
-        let head = |index| u64::from(number_at(&self.areas.head, index));
-        Outlook { size: head(0), few: 12, now: head(3), floor: head(4) }
+        outlook_of(&self.areas, 12)
     }
 
     fn write(&mut self, draw: &mut Draw, address: u64) -> u32 {
@@ -138,7 +137,7 @@ impl Draft {
     /// Some requests more: pages written again, and the older ones freed; a fill; a reclaim; or any.
     fn round(&mut self, draw: &mut Draw) {
         let outlook = self.outlook();
-        let mix = Mix { write: 50, mark: 15, revert: 10, read: 5, reclaim: 20 };
+        let mix = Mix { write: 50, mark: 15, revert: 10, read: 5, reclaim: 20, name: 5, withdraw: 4 };
         match draw.below(6) {
             0 => self.fill(draw),
             1 => {

@@ -36,16 +36,45 @@ pub fn drawn_areas(draw: &mut Draw, sizes: &Sizes) -> Areas {
         branches: draw.bytes(BRANCH_BYTES * sizes.branches),
         records: draw.bytes(RECORD_BYTES * sizes.records),
         places: draw.bytes(PLACE_BYTES * sizes.places),
+        names: draw.bytes(NAME_ROW_BYTES * MOST_NAMES),
         slab: draw.bytes(PAGE * sizes.places),
     }
 }
 
-/// Areas with these branch rows and records, places in any order, and any bytes past the counts.
+/// So many names, all different, for moments of these branch rows below now; none where there is no such moment.
+/// Many names are different in one byte alone, and many moments have two names.
+fn drawn_names(draw: &mut Draw, rows: &[(u64, u64, u64)], now: u64, count: u64) -> Vec<Name> {
+    let mut names: Vec<Name> = Vec::new();
+    while now > 0 && (names.len() as u64) < count {
+        let (start, end, _) = rows[draw.below(rows.len() as u64) as usize];
+        let last = end.min(now - 1);
+        let moment = match draw.below(6) {
+            0 if !names.is_empty() => u64::from(names[0].moment),
+            1 => start.min(last),
+            2 => last,
+            _ => draw.within(start.min(last), last),
+        } as u32;
+        let mut bytes = [b'n'; NAME_BYTES];
+        if draw.percent(10) {
+            bytes.copy_from_slice(&draw.bytes(NAME_BYTES));
+        } else {
+            bytes[draw.below(NAME_BYTES as u64) as usize] = draw.below(12) as u8;
+        }
+        let inside = rows.iter().any(|row| row.0 <= u64::from(moment) && u64::from(moment) <= row.1);
+        if inside && names.iter().all(|name| name.bytes != bytes) {
+            names.push(Name { bytes, moment });
+        }
+    }
+    names
+}
+
+/// Areas with these branch rows, records and names, places in any order, and any bytes past the counts.
 fn laid_out(
     draw: &mut Draw,
     sizes: &Sizes,
     rows: &[(u64, u64, u64)],
     pairs: &BTreeSet<(u32, u32)>,
+    names: &[Name],
     now: u64,
     floor: u64,
 ) -> Areas {
@@ -66,7 +95,12 @@ fn laid_out(
         set_number_at(&mut areas.records, 3 * row + 2, places[row]);
         set_number_at(&mut areas.places, places[row] as usize, row as u32 + 1);
     }
-    let head = [sizes.size, rows.len() as u32, pairs.len() as u32, now as u32, floor as u32];
+    for (row, name) in names.iter().enumerate() {
+        areas.names[NAME_ROW_BYTES * row..NAME_ROW_BYTES * row + NAME_BYTES].copy_from_slice(&name.bytes);
+        set_number_at(&mut areas.names, 3 * row + 2, name.moment);
+    }
+    let counts = [rows.len() as u32, pairs.len() as u32];
+    let head = [sizes.size, counts[0], counts[1], now as u32, floor as u32, names.len() as u32];
     for (index, number) in head.iter().enumerate() {
         set_number_at(&mut areas.head, index, *number);
     }
@@ -74,7 +108,7 @@ fn laid_out(
 }
 
 /// Sound tables drawn row by row: branches with gaps up to the floor, cuts anywhere in earlier rows,
-/// records anywhere in the rows, places in any order, any bytes past the counts.
+/// records and named moments anywhere in the rows, places in any order, any bytes past the counts.
 pub fn drawn_sound(draw: &mut Draw, sizes: &Sizes) -> Areas {
     let last = u64::from(OPEN_END);
     let branch_count = draw.within(1, sizes.branches as u64) as usize;
@@ -135,7 +169,14 @@ pub fn drawn_sound(draw: &mut Draw, sizes: &Sizes) -> Areas {
         };
         pairs.insert((address as u32, moment as u32));
     }
-    laid_out(draw, sizes, &rows, &pairs, now, floor)
+    let count = match draw.below(10) {
+        0..=2 => 0,
+        3..=7 => draw.within(1, 8),
+        8 => draw.within(9, 32),
+        _ => draw.within(31, 32),
+    };
+    let names = drawn_names(draw, &rows, now, count);
+    laid_out(draw, sizes, &rows, &pairs, &names, now, floor)
 }
 
 /// Sound tables with all branch rows in use and the record and place tables full or nearly so.
@@ -163,7 +204,8 @@ pub fn drawn_full(draw: &mut Draw, sizes: &Sizes, table: u64) -> Areas {
         let address = if draw.percent(50) { draw.below(400) } else { draw.below(65_536) };
         pairs.insert((address as u32, draw.below(now + 1) as u32));
     }
-    laid_out(draw, sizes, &rows, &pairs, now, floor)
+    let names = drawn_names(draw, &rows, now, if table % 2 == 0 { 32 } else { 3 });
+    laid_out(draw, sizes, &rows, &pairs, &names, now, floor)
 }
 
 pub fn area_of(areas: &mut Areas, index: u64) -> &mut Vec<u8> {
@@ -172,6 +214,7 @@ pub fn area_of(areas: &mut Areas, index: u64) -> &mut Vec<u8> {
         1 => &mut areas.branches,
         2 => &mut areas.records,
         3 => &mut areas.places,
+        4 => &mut areas.names,
         _ => &mut areas.slab,
     }
 }
@@ -181,13 +224,14 @@ pub fn change_number(draw: &mut Draw, areas: &mut Areas) {
     if areas.head.len() < HEAD_BYTES {
         return;
     }
-    let head: Vec<u32> = (0..5).map(|index| number_at(&areas.head, index)).collect();
-    let which = draw.below(4);
+    let head: Vec<u32> = (0..6).map(|index| number_at(&areas.head, index)).collect();
+    let which = draw.below(5);
     // Mostly one that is counted.
     let counted = match which {
-        0 => 5,
+        0 => 6,
         1 => 3 * u64::from(head[1]),
         2 => 3 * u64::from(head[2]),
+        4 => 3 * u64::from(head[5]),
         _ => 0,
     };
     let area = area_of(areas, which);
@@ -202,8 +246,9 @@ pub fn change_number(draw: &mut Draw, areas: &mut Areas) {
         0 | 1 => old.wrapping_add(1),
         2 | 3 => old.wrapping_sub(1),
         4 => 0,
-        5 => draw.one_of(&[1, 2, 3, 4_096, 4_097, 65_535, 65_536, 65_537, 4_294_967_294, 4_294_967_295]) as u32,
-        6 => head[draw.below(5) as usize],
+        5 => draw.one_of(&[1, 2, 3, 31, 32, 33, 4_096, 4_097, 65_535, 65_536, 65_537, 4_294_967_294, 4_294_967_295])
+            as u32,
+        6 => head[draw.below(6) as usize],
         7 => number_at(area, draw.below(numbers as u64) as usize),
         _ => draw.next() as u32,
     };
@@ -211,7 +256,7 @@ pub fn change_number(draw: &mut Draw, areas: &mut Areas) {
 }
 
 fn swap_rows(draw: &mut Draw, areas: &mut Areas) {
-    let which = draw.within(1, 3);
+    let which = draw.within(1, 4);
     let width = if which == 3 { PLACE_BYTES } else { BRANCH_BYTES };
     let area = area_of(areas, which);
     let rows = (area.len() / width) as u64;
@@ -227,10 +272,10 @@ fn swap_rows(draw: &mut Draw, areas: &mut Areas) {
 
 /// Changes the length of one area: by bytes, by numbers, by rows, or to none at all.
 fn change_length(draw: &mut Draw, areas: &mut Areas) {
-    let which = draw.below(5);
+    let which = draw.below(6);
     let width = match which {
-        0 => 20,
-        1 | 2 => 12,
+        0 => 24,
+        1 | 2 | 4 => 12,
         3 => 4,
         _ => 256,
     };
@@ -258,8 +303,48 @@ fn change_length(draw: &mut Draw, areas: &mut Areas) {
     }
 }
 
+/// Makes names equal, or nearly so; puts a named moment to or beside now, or beside the end of a branch; takes more rows
+/// as names.
+fn change_names(draw: &mut Draw, areas: &mut Areas) {
+    if areas.head.len() < HEAD_BYTES || areas.branches.len() < BRANCH_BYTES {
+        return;
+    }
+    let now = number_at(&areas.head, 3);
+    let count = number_at(&areas.head, 5).clamp(1, MOST_NAMES as u32) as usize;
+    let rows = if draw.percent(80) { count } else { MOST_NAMES } as u64;
+    let row = draw.below(rows) as usize;
+    match draw.below(5) {
+        0 | 1 => {
+            let other = draw.below(rows) as usize;
+            let from = NAME_ROW_BYTES * other;
+            areas.names.copy_within(from..from + NAME_BYTES, NAME_ROW_BYTES * row);
+            if draw.percent(50) {
+                areas.names[NAME_ROW_BYTES * row + draw.below(NAME_BYTES as u64) as usize] ^= draw.one_bit(8) as u8;
+            }
+        }
+        2 => {
+            let moment = now.wrapping_add(draw.below(3) as u32).wrapping_sub(1);
+            set_number_at(&mut areas.names, 3 * row + 2, moment);
+        }
+        3 => {
+            let branch = draw.below((areas.branches.len() / BRANCH_BYTES) as u64) as usize;
+            let end = number_at(&areas.branches, 3 * branch + 1);
+            set_number_at(&mut areas.names, 3 * row + 2, end.wrapping_add(draw.below(3) as u32));
+        }
+        _ => {
+            let more = draw.one_of(&[1, 2, 31, 32, 33, 34, 4_294_967_295]) as u32;
+            set_number_at(&mut areas.head, 5, more);
+        }
+    }
+}
+
 pub fn damage(draw: &mut Draw, areas: &mut Areas) {
-    match draw.below(10) {
+    match draw.below(12) {
+        10 | 11 => {
+            for _ in 0..draw.one_of(&[1, 1, 1, 2, 3]) {
+                change_names(draw, areas);
+            }
+        }
         0..=4 => {
             for _ in 0..draw.one_of(&[1, 1, 1, 2, 3]) {
                 change_number(draw, areas);

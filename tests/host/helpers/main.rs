@@ -1,11 +1,13 @@
-//! Writes requests and answers to standard output, each with its bytes, and place tables, for the test of
+//! Writes requests and answers to standard output, each with its bytes, place tables and name tables, for the test of
 //! include/kizmoolet_requests.h. Every number is eight bytes, least significant first; an area is its length and its bytes.
 //! Records:
 //! K numbers                                   the reference's sizes
-//! Q operation address moment page bytes       a request as the reference reads these bytes; page empty if there is none
+//! Q operation address moment behind bytes     a request as the reference reads these bytes; behind: the page or name, empty if
+//!                                             there is none
 //! A refusal number date page bytes            an answer and the bytes that the reference writes for it; date 0 and page
 //!                                             empty if there is none
 //! S places in-use                             a place table, and up to which byte the slab is in use
+//! N head names name row                       a head and a name table, and the row that has this name, or how many there are
 //! Z                                           the end
 
 use reference::*;
@@ -53,26 +55,31 @@ fn request(out: &mut Out, drawn: &mut Drawn, operation: u64, between: u64) {
         1 => 0xFFFF_0000_0000,
         2 => 0,
         4 => 0xFFFF_FFFF_FFFF,
+        7 => 0,
         _ => 0x0000_FFFF_FFFF,
     };
     let packed = operation << 53 | (between & used) << 5;
     let mut bytes = packed.to_be_bytes()[1..].to_vec();
     if operation == 1 {
         bytes.extend(drawn.page());
+    } else if operation >= 6 {
+        bytes.extend(drawn.next().to_be_bytes());
     }
-    let (number, address, moment, page) = match read_request(&bytes) {
+    let (number, address, moment, behind) = match read_request(&bytes) {
         Ok((Request::Write { address, page }, 263)) => (1, address, 0, page),
         Ok((Request::Mark, 7)) => (2, 0, 0, Vec::new()),
         Ok((Request::Revert { moment }, 7)) => (3, 0, moment, Vec::new()),
         Ok((Request::Read { address, moment }, 7)) => (4, address, moment, Vec::new()),
         Ok((Request::Reclaim { moment }, 7)) => (5, 0, moment, Vec::new()),
+        Ok((Request::Name { moment, name }, 15)) => (6, 0, moment, name.to_vec()),
+        Ok((Request::Withdraw { name }, 15)) => (7, 0, 0, name.to_vec()),
         other => panic!("the reference reads {other:?}"),
     };
     out.bytes(b"Q");
     out.number(number);
     out.number(u64::from(address));
     out.number(u64::from(moment));
-    out.area(&page);
+    out.area(&behind);
     out.area(&bytes);
 }
 
@@ -130,6 +137,54 @@ fn all_place_tables(out: &mut Out, drawn: &mut Drawn) {
     }
 }
 
+/// The count of the head, and these names, at these moments, with zeros behind them; asked for this name.
+fn name_table(out: &mut Out, count: u32, rows: &[Name], name: &[u8; NAME_BYTES]) {
+    let mut head = vec![0xFF; HEAD_BYTES];
+    set_number_at(&mut head, 5, count);
+    let mut names = vec![0; NAME_ROW_BYTES * MOST_NAMES];
+    for (row, name) in rows.iter().enumerate() {
+        names[NAME_ROW_BYTES * row..NAME_ROW_BYTES * row + NAME_BYTES].copy_from_slice(&name.bytes);
+        set_number_at(&mut names, 3 * row + 2, name.moment);
+    }
+    let counted = (count as usize).min(MOST_NAMES);
+    let has = |row: &usize| names[NAME_ROW_BYTES * row..NAME_ROW_BYTES * row + NAME_BYTES] == *name;
+    out.bytes(b"N");
+    out.area(&head);
+    out.area(&names);
+    out.area(name);
+    out.number((0..counted).find(has).unwrap_or(counted) as u64);
+}
+
+/// Every count from 0 to 34, and the largest, with names that are different, in one byte or in all: each row's name asked
+/// for, and with each of its bits changed.
+fn all_name_tables(out: &mut Out, drawn: &mut Drawn) {
+    for count in (0..35).chain([u32::MAX]) {
+        for alike in [false, true] {
+            let any = drawn.next().to_be_bytes();
+            let mut rows = Vec::new();
+            for row in 0..MOST_NAMES {
+                let mut bytes = if alike { any } else { drawn.next().to_be_bytes() };
+                if alike {
+                    bytes[row % NAME_BYTES] ^= 1 + (row / NAME_BYTES) as u8;
+                }
+                rows.push(Name { bytes, moment: drawn.next() as u32 });
+            }
+            for row in 0..MOST_NAMES {
+                name_table(out, count, &rows, &rows[row].bytes);
+                for bit in 0..8 * NAME_BYTES {
+                    let mut other = rows[row].bytes;
+                    other[bit / 8] ^= 1 << (bit % 8);
+                    if row % 8 == 0 || bit % 8 == row / 8 {
+                        name_table(out, count, &rows, &other);
+                    }
+                }
+            }
+            name_table(out, count, &[], &[0; NAME_BYTES]);
+            name_table(out, count, &rows, &[0; NAME_BYTES]);
+        }
+    }
+}
+
 fn main() {
     let seed = std::env::args().nth(1).and_then(|word| word.parse().ok()).expect("a seed");
     let mut drawn = Drawn(seed);
@@ -138,12 +193,15 @@ fn main() {
     for size in [PAGE, HEAD_BYTES, BRANCH_BYTES, RECORD_BYTES, PLACE_BYTES, MOST_BRANCHES, MOST_RECORDS, MOST_PLACES] {
         out.number(size as u64);
     }
+    for size in [NAME_BYTES, NAME_ROW_BYTES, MOST_NAMES, NAME_ROW_BYTES * MOST_NAMES, 7 + NAME_BYTES] {
+        out.number(size as u64);
+    }
     out.number(u64::from(LARGEST_SIZE));
     out.number(u64::from(OPEN_END));
     for length in [ANSWER_BYTES, DATE_BYTES, PAGE_ANSWER_BYTES] {
         out.number(length as u64);
     }
-    for operation in 1..=5 {
+    for operation in 1..=7 {
         // No bit, all bits, each bit alone, each bit missing, and any.
         request(&mut out, &mut drawn, operation, 0);
         request(&mut out, &mut drawn, operation, u64::MAX);
@@ -156,7 +214,7 @@ fn main() {
             request(&mut out, &mut drawn, operation, between);
         }
     }
-    for refusal in 4..=10 {
+    for refusal in (4..=10).chain(15..=17) {
         answer(&mut out, refusal, 0, None);
     }
     // No bit, all bits, four different bytes, each bit alone, and any: as a number, and as a date.
@@ -172,6 +230,7 @@ fn main() {
         }
     }
     all_place_tables(&mut out, &mut drawn);
+    all_name_tables(&mut out, &mut drawn);
     out.bytes(b"Z");
     if out.0.flush().is_err() {
         std::process::exit(2);

@@ -1,4 +1,4 @@
-//! The page history store of document 01, with change requests One and Two of document 02, written from
+//! The page history store of document 01, with change requests One to Three of document 02, written from
 //! these documents alone and as plainly as they read. It works on the same byte areas as the library that
 //! it is compared with: every number of head and tables is four bytes, most significant first. Each batch
 //! turns the bytes into rows, checks them, serves the requests on the rows and turns the rows back into
@@ -7,10 +7,12 @@
 /// The end of the branch that is still open.
 pub const OPEN_END: u32 = 4_294_967_295;
 pub const PAGE: usize = 256;
-pub const HEAD_BYTES: usize = 20;
+pub const HEAD_BYTES: usize = 24;
 pub const BRANCH_BYTES: usize = 12;
 pub const RECORD_BYTES: usize = 12;
 pub const PLACE_BYTES: usize = 4;
+pub const NAME_BYTES: usize = 8;
+pub const NAME_ROW_BYTES: usize = NAME_BYTES + 4;
 /// An answer, a found page's date, and an answer with date and page.
 pub const ANSWER_BYTES: usize = 5;
 pub const DATE_BYTES: usize = 4;
@@ -18,6 +20,7 @@ pub const PAGE_ANSWER_BYTES: usize = ANSWER_BYTES + DATE_BYTES + PAGE;
 pub const MOST_BRANCHES: usize = 4_096;
 pub const MOST_RECORDS: usize = 65_536;
 pub const MOST_PLACES: usize = 65_536;
+pub const MOST_NAMES: usize = 32;
 pub const LARGEST_SIZE: u32 = 65_536;
 
 /// With fewer readable moments and fewer records than this a reclaim tries every moment, as the document
@@ -32,6 +35,7 @@ pub struct Head {
     pub record_count: u32,
     pub now: u32,
     pub floor: u32,
+    pub name_count: u32,
 }
 
 #[derive(Clone, Copy, Debug, PartialEq, Eq)]
@@ -48,13 +52,21 @@ pub struct Record {
     pub place: u32,
 }
 
-/// The five lent areas.
+/// A row of the name table: a name, and the moment that it stands for.
+#[derive(Clone, Copy, Debug, PartialEq, Eq)]
+pub struct Name {
+    pub bytes: [u8; NAME_BYTES],
+    pub moment: u32,
+}
+
+/// The six lent areas.
 #[derive(Clone, Debug, PartialEq, Eq, Default)]
 pub struct Areas {
     pub head: Vec<u8>,
     pub branches: Vec<u8>,
     pub records: Vec<u8>,
     pub places: Vec<u8>,
+    pub names: Vec<u8>,
     pub slab: Vec<u8>,
 }
 
@@ -74,6 +86,8 @@ pub enum Request {
     Revert { moment: u32 },
     Read { address: u32, moment: u32 },
     Reclaim { moment: u32 },
+    Name { moment: u32, name: [u8; NAME_BYTES] },
+    Withdraw { name: [u8; NAME_BYTES] },
 }
 
 /// A page with its date: the moment at which it was written.
@@ -105,6 +119,8 @@ enum Change {
     Mark,
     Revert { cut: u32 },
     Reclaim { floor: u32, kept: Kept },
+    Name { name: Name },
+    Withdraw { row: usize },
 }
 
 // ---------------------------------------------------------------------------------------------
@@ -119,6 +135,13 @@ pub fn set_number_at(bytes: &mut [u8], index: usize, value: u32) {
     bytes[4 * index..4 * index + 4].copy_from_slice(&value.to_be_bytes());
 }
 
+/// The name that these bytes begin with.
+pub fn name_at(bytes: &[u8]) -> [u8; NAME_BYTES] {
+    let mut name = [0; NAME_BYTES];
+    name.copy_from_slice(&bytes[..NAME_BYTES]);
+    name
+}
+
 /// The store as rows. The tables have all rows lent; those past a count are carried along unread.
 #[derive(Clone, Debug, PartialEq, Eq)]
 pub struct Store {
@@ -126,6 +149,7 @@ pub struct Store {
     pub branches: Vec<Branch>,
     pub records: Vec<Record>,
     pub places: Vec<u32>,
+    pub names: Vec<Name>,
     pub slab: Vec<u8>,
 }
 
@@ -141,6 +165,7 @@ fn lengths_allowed(areas: &Areas) -> bool {
         && (1..=MOST_BRANCHES).contains(&branches)
         && (1..=MOST_RECORDS).contains(&records)
         && (1..=MOST_PLACES).contains(&places)
+        && areas.names.len() == NAME_ROW_BYTES * MOST_NAMES
         && areas.slab.len() == PAGE * places
 }
 
@@ -152,6 +177,7 @@ fn rows_of(areas: &mut Areas) -> Store {
         record_count: number_at(&areas.head, 2),
         now: number_at(&areas.head, 3),
         floor: number_at(&areas.head, 4),
+        name_count: number_at(&areas.head, 5),
     };
     let mut branches = Vec::new();
     for row in areas.branches.chunks_exact(BRANCH_BYTES) {
@@ -165,9 +191,13 @@ fn rows_of(areas: &mut Areas) -> Store {
     for row in areas.places.chunks_exact(PLACE_BYTES) {
         places.push(number_at(row, 0));
     }
+    let mut names = Vec::new();
+    for row in areas.names.chunks_exact(NAME_ROW_BYTES) {
+        names.push(Name { bytes: name_at(row), moment: number_at(row, 2) });
+    }
     // The slab is handed over and back, since it may be large.
     let slab = std::mem::take(&mut areas.slab);
-    Store { head, branches, records, places, slab }
+    Store { head, branches, records, places, names, slab }
 }
 
 fn bytes_of(store: Store, areas: &mut Areas) {
@@ -176,6 +206,7 @@ fn bytes_of(store: Store, areas: &mut Areas) {
     set_number_at(&mut areas.head, 2, store.head.record_count);
     set_number_at(&mut areas.head, 3, store.head.now);
     set_number_at(&mut areas.head, 4, store.head.floor);
+    set_number_at(&mut areas.head, 5, store.head.name_count);
     for (row, branch) in areas.branches.chunks_exact_mut(BRANCH_BYTES).zip(&store.branches) {
         set_number_at(row, 0, branch.start);
         set_number_at(row, 1, branch.end);
@@ -188,6 +219,10 @@ fn bytes_of(store: Store, areas: &mut Areas) {
     }
     for (row, place) in areas.places.chunks_exact_mut(PLACE_BYTES).zip(&store.places) {
         set_number_at(row, 0, *place);
+    }
+    for (row, name) in areas.names.chunks_exact_mut(NAME_ROW_BYTES).zip(&store.names) {
+        row[..NAME_BYTES].copy_from_slice(&name.bytes);
+        set_number_at(row, 2, name.moment);
     }
     areas.slab = store.slab;
 }
@@ -222,6 +257,7 @@ pub fn fresh(size: u32, areas: &mut Areas) -> u32 {
     areas.branches.fill(0);
     areas.records.fill(0);
     areas.places.fill(0);
+    areas.names.fill(0);
     set_number_at(&mut areas.head, 0, size);
     set_number_at(&mut areas.head, 1, 1);
     set_number_at(&mut areas.branches, 1, OPEN_END);
@@ -240,12 +276,17 @@ impl Store {
         &self.records[..self.head.record_count as usize]
     }
 
+    pub fn counted_names(&self) -> &[Name] {
+        &self.names[..self.head.name_count as usize]
+    }
+
     fn head_allowed(&self) -> bool {
         let head = &self.head;
         (1..=LARGEST_SIZE).contains(&head.size)
             && 1 <= head.branch_count
             && head.branch_count as usize <= self.branches.len()
             && head.record_count as usize <= self.records.len()
+            && head.name_count as usize <= MOST_NAMES
             && head.floor <= head.now
     }
 
@@ -285,6 +326,22 @@ impl Store {
         rows[last].start <= self.head.now
     }
 
+    /// The branch rows are sound.
+    fn names_sound(&self) -> bool {
+        let rows = self.counted_names();
+        for i in 0..rows.len() {
+            // No name twice.
+            if rows[..i].iter().any(|row| row.bytes == rows[i].bytes) {
+                return false;
+            }
+            // The moment is below now and inside a row.
+            if rows[i].moment >= self.head.now || self.branch_holding(rows[i].moment).is_none() {
+                return false;
+            }
+        }
+        true
+    }
+
     fn records_sound(&self) -> bool {
         let rows = self.counted_records();
         for i in 0..rows.len() {
@@ -310,13 +367,39 @@ impl Store {
     fn check(&self) -> u32 {
         if !self.head_allowed() {
             1
-        } else if !self.branches_sound() {
+        } else if !self.branches_sound() || !self.names_sound() {
             2
         } else if !self.records_sound() {
             3
         } else {
             0
         }
+    }
+
+    // -----------------------------------------------------------------------------------------
+    // Names
+
+    /// Does the moment have a name?
+    pub fn is_named(&self, moment: u32) -> bool {
+        self.counted_names().iter().any(|name| name.moment == moment)
+    }
+
+    /// The counted name row of this name.
+    fn row_of_name(&self, name: &[u8; NAME_BYTES]) -> Option<usize> {
+        self.counted_names().iter().position(|row| row.bytes == *name)
+    }
+
+    fn give(&mut self, name: Name) {
+        self.names[self.head.name_count as usize] = name;
+        self.head.name_count += 1;
+    }
+
+    /// The names behind it close the gap, and the row that is vacated becomes zero.
+    fn withdraw(&mut self, row: usize) {
+        let count = self.head.name_count as usize;
+        self.names.copy_within(row + 1..count, row);
+        self.names[count - 1] = Name { bytes: [0; NAME_BYTES], moment: 0 };
+        self.head.name_count -= 1;
     }
 
     // -----------------------------------------------------------------------------------------
@@ -371,13 +454,15 @@ impl Store {
     // -----------------------------------------------------------------------------------------
     // Reclaiming
 
-    /// What a reclaim keeps, as the document defines it: each record that some read from the floor to
-    /// now gives, each branch on the way from such a moment through parents to the first row.
+    /// What a reclaim keeps, as the documents define it: each record that some read from the floor to
+    /// now, or at a named moment, gives, each branch on the way from such a moment through parents to the
+    /// first row.
     pub fn kept_by_every_moment(&self, floor: u32) -> Kept {
         let records = self.counted_records();
         let mut kept =
             Kept { records: vec![false; records.len()], branches: vec![false; self.counted_branches().len()] };
-        for moment in floor..=self.head.now {
+        let named = self.counted_names().iter().map(|name| name.moment);
+        for moment in (floor..=self.head.now).chain(named) {
             for record in records {
                 if let Some(row) = self.find(record.address, moment) {
                     kept.records[row] = true;
@@ -412,7 +497,8 @@ impl Store {
     /// - there is no r: then there is none from b's start to f either, and both reads go on in the
     ///   parent with the same cut.
     /// So it is enough to keep the records at the floor or later, and what reads at the first readable
-    /// moments give. The branches on the way depend on b alone.
+    /// moments give. The branches on the way depend on b alone. What reads at named moments give, and the
+    /// branches on their way, are kept besides, each for itself.
     ///
     /// Each branch on the way is searched from its start up to a moment: the first readable moment in
     /// b, the cut below it in the others. A parent's part lies before its child's, so the first
@@ -423,19 +509,19 @@ impl Store {
         let mut kept = Kept { records: vec![false; records.len()], branches: vec![false; branches.len()] };
         let holding = |moment| self.branch_holding(moment).expect("the moment lies inside a counted row");
         let branch_of: Vec<usize> = records.iter().map(|record| holding(record.moment)).collect();
-        for (branch, row) in branches.iter().enumerate() {
-            if row.end >= floor {
-                self.keep_way(row.start.max(floor), &mut kept.branches);
-                let searched = self.searched_up_to(branch, row.start.max(floor));
-                for row in 0..records.len() {
-                    let on_way = |row: usize| searched[branch_of[row]].is_some_and(|to| records[row].moment <= to);
-                    let last_on_way = on_way(row)
-                        && !(row + 1..records.len())
-                            .take_while(|later| records[*later].address == records[row].address)
-                            .any(on_way);
-                    if last_on_way {
-                        kept.records[row] = true;
-                    }
+        let first = branches.iter().filter(|row| row.end >= floor).map(|row| row.start.max(floor));
+        let named = self.counted_names().iter().map(|name| name.moment);
+        for moment in first.chain(named) {
+            self.keep_way(moment, &mut kept.branches);
+            let searched = self.searched_up_to(holding(moment), moment);
+            for row in 0..records.len() {
+                let on_way = |row: usize| searched[branch_of[row]].is_some_and(|to| records[row].moment <= to);
+                let last_on_way = on_way(row)
+                    && !(row + 1..records.len())
+                        .take_while(|later| records[*later].address == records[row].address)
+                        .any(on_way);
+                if last_on_way {
+                    kept.records[row] = true;
                 }
             }
         }
@@ -571,7 +657,7 @@ impl Store {
                 }
             }
             Request::Revert { moment } => {
-                if *moment < head.floor {
+                if *moment < head.floor && !self.is_named(*moment) {
                     8
                 } else if *moment >= head.now {
                     9
@@ -586,7 +672,7 @@ impl Store {
             Request::Read { address, moment } => {
                 if *address >= head.size {
                     4
-                } else if *moment < head.floor {
+                } else if *moment < head.floor && !self.is_named(*moment) {
                     8
                 } else if *moment > head.now {
                     9
@@ -594,6 +680,7 @@ impl Store {
                     0
                 }
             }
+            // A name does not help here.
             Request::Reclaim { moment } => {
                 if *moment < head.floor {
                     8
@@ -603,6 +690,21 @@ impl Store {
                     0
                 }
             }
+            Request::Name { name, moment } => {
+                if *moment < head.floor && !self.is_named(*moment) {
+                    8
+                } else if head.now <= *moment {
+                    9
+                } else if self.row_of_name(name).is_some() {
+                    15
+                } else if head.name_count as usize == MOST_NAMES {
+                    16
+                } else {
+                    0
+                }
+            }
+            Request::Withdraw { name } if self.row_of_name(name).is_none() => 17,
+            Request::Withdraw { .. } => 0,
         }
     }
 
@@ -629,6 +731,15 @@ impl Store {
                 answer.number = kept.records.iter().filter(|keep| !**keep).count() as u32;
                 Change::Reclaim { floor: *moment, kept }
             }
+            Request::Name { moment, name } => {
+                answer.number = *moment;
+                Change::Name { name: Name { bytes: *name, moment: *moment } }
+            }
+            Request::Withdraw { name } => {
+                let row = self.row_of_name(name).expect("the name is given");
+                answer.number = self.names[row].moment;
+                Change::Withdraw { row }
+            }
         };
         (answer, change)
     }
@@ -640,6 +751,8 @@ impl Store {
             Change::Mark => self.head.now += 1,
             Change::Revert { cut } => self.revert(cut),
             Change::Reclaim { floor, kept } => self.reclaim(floor, &kept),
+            Change::Name { name } => self.give(name),
+            Change::Withdraw { row } => self.withdraw(row),
         }
     }
 }
@@ -660,12 +773,12 @@ pub fn read_request(bytes: &[u8]) -> Result<(Request, usize), u32> {
     let address = (packed >> 37 & 0xFFFF) as u32;
     let moment = (packed >> 5 & 0xFFFF_FFFF) as u32;
     let spare = packed & 31;
-    if !(1..=5).contains(&operation) {
+    if operation == 0 {
         return Err(12);
     }
     // Fields that an operation does not use count as spare.
     let uses_address = operation == 1 || operation == 4;
-    let uses_moment = operation == 3 || operation == 4 || operation == 5;
+    let uses_moment = operation == 3 || operation == 4 || operation == 5 || operation == 6;
     if spare != 0 || (!uses_address && address != 0) || (!uses_moment && moment != 0) {
         return Err(13);
     }
@@ -679,7 +792,15 @@ pub fn read_request(bytes: &[u8]) -> Result<(Request, usize), u32> {
         2 => Ok((Request::Mark, 7)),
         3 => Ok((Request::Revert { moment }, 7)),
         4 => Ok((Request::Read { address, moment }, 7)),
-        _ => Ok((Request::Reclaim { moment }, 7)),
+        5 => Ok((Request::Reclaim { moment }, 7)),
+        _ => {
+            if bytes.len() < 7 + NAME_BYTES {
+                return Err(11);
+            }
+            let name = name_at(&bytes[7..]);
+            let request = if operation == 6 { Request::Name { moment, name } } else { Request::Withdraw { name } };
+            Ok((request, 7 + NAME_BYTES))
+        }
     }
 }
 
@@ -763,6 +884,7 @@ pub fn rows(areas: &Areas) -> Store {
         branches: areas.branches.clone(),
         records: areas.records.clone(),
         places: areas.places.clone(),
+        names: areas.names.clone(),
         slab,
     };
     rows_of(&mut tables)

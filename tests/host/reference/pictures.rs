@@ -1,7 +1,7 @@
-//! The pile of pictures of document 01: a whole picture for each moment. It is fed the answered
-//! requests and, of each answer, only whether it is a refusal.
+//! The pile of pictures of document 01, with the names of document 02, Three: a whole picture for each moment.
+//! It is fed the answered requests and, of each answer, only whether it is a refusal.
 
-use crate::{dated_page, Answer, Areas, DatedPage, Request};
+use crate::{dated_page, Answer, Areas, DatedPage, Name, Request};
 use std::collections::BTreeSet;
 use std::rc::Rc;
 
@@ -13,11 +13,13 @@ pub struct Pile {
     pub floor: u32,
     pub pictures: Vec<Picture>,
     pub held: BTreeSet<(u32, u32)>,
+    /// In the order given.
+    pub names: Vec<Name>,
 }
 
 impl Pile {
     pub fn new(size: u32) -> Pile {
-        Pile { now: 0, floor: 0, pictures: vec![vec![None; size as usize]], held: BTreeSet::new() }
+        Pile { now: 0, floor: 0, pictures: vec![vec![None; size as usize]], held: BTreeSet::new(), names: Vec::new() }
     }
 
     /// Takes one answered request; the result is the answer that the documents claim, if they claim one:
@@ -49,14 +51,21 @@ impl Pile {
                 self.held.retain(|pair| shown.contains(pair));
                 accepted((held_before - self.held.len()) as u32)
             }
+            Request::Name { moment, name } => {
+                self.names.push(Name { bytes: *name, moment: *moment });
+                accepted(*moment)
+            }
+            Request::Withdraw { name } => {
+                let row = self.names.iter().position(|row| row.bytes == *name);
+                row.and_then(|row| accepted(self.names.remove(row).moment))
+            }
         }
     }
 
     /// The answer to a read of an address below the size at a readable moment.
     fn read(&self, address: u32, moment: u32) -> Option<Answer> {
         let below_size = (address as usize) < self.pictures[0].len();
-        let readable = (self.floor..=self.now).contains(&moment);
-        (below_size && readable).then(|| {
+        (below_size && self.can_read(moment)).then(|| {
             let found = self.page(address, moment).cloned();
             Answer { refusal: 0, number: moment, found }
         })
@@ -69,10 +78,19 @@ impl Pile {
         self.now += 1;
     }
 
+    fn can_read(&self, moment: u32) -> bool {
+        (self.floor..=self.now).contains(&moment) || self.names.iter().any(|name| name.moment == moment)
+    }
+
+    /// The moments from the floor to now, and the named ones.
+    pub fn readable(&self) -> BTreeSet<u32> {
+        (self.floor..=self.now).chain(self.names.iter().map(|name| name.moment)).collect()
+    }
+
     /// Address and moment of every page in a readable picture.
     pub fn shown(&self) -> BTreeSet<(u32, u32)> {
         let mut shown = BTreeSet::new();
-        for moment in self.floor..=self.now {
+        for moment in self.readable() {
             for (address, page) in self.pictures[moment as usize].iter().enumerate() {
                 if let Some(page) = page {
                     shown.insert((address as u32, page.date));
@@ -93,6 +111,9 @@ impl Pile {
         if (store.head.now, store.head.floor) != (self.now, self.floor) {
             return Some("now or floor".to_string());
         }
+        if store.counted_names() != self.names {
+            return Some("names".to_string());
+        }
         let mut pairs = BTreeSet::new();
         for record in store.counted_records() {
             if !pairs.insert((record.address, record.moment)) {
@@ -102,7 +123,7 @@ impl Pile {
         if pairs != self.held {
             return Some("held pairs".to_string());
         }
-        for moment in self.floor..=self.now {
+        for moment in self.readable() {
             for address in 0..store.head.size {
                 let row = store.find(address, moment);
                 let found = row.map(|row| dated_page(&store.records[row], &areas.slab));

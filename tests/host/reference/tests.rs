@@ -8,6 +8,7 @@ fn areas(branches: usize, records: usize, places: usize) -> Areas {
         branches: vec![0xEE; BRANCH_BYTES * branches],
         records: vec![0xEE; RECORD_BYTES * records],
         places: vec![0xEE; PLACE_BYTES * places],
+        names: vec![0xEE; NAME_ROW_BYTES * MOST_NAMES],
         slab: vec![0xEE; PAGE * places],
     }
 }
@@ -43,6 +44,15 @@ fn read(address: u64, moment: u64) -> Vec<u8> {
 
 fn reclaim(moment: u64) -> Vec<u8> {
     packed(5, 0, moment)
+}
+
+/// The name that is eight times this letter.
+fn name(moment: u64, letter: u8) -> Vec<u8> {
+    [packed(6, 0, moment), vec![letter; 8]].concat()
+}
+
+fn withdraw(letter: u8) -> Vec<u8> {
+    [packed(7, 0, 0), vec![letter; 8]].concat()
 }
 
 /// The answers to these requests: refusal, number, and of a page its letter and date.
@@ -119,7 +129,7 @@ fn session() {
 #[test]
 fn answers_to_reads() {
     let mut store = made(6, 1, 2, 2);
-    set_head(&mut store, [6, 1, 0, 0x0102_0304, 0]);
+    set_head(&mut store, [6, 1, 0, 0x0102_0304, 0, 0]);
     let list = [write(0, b'A'), mark(), read(0, 0x0102_0305), read(0, 0x0102_0303)].concat();
     let mut area = [0x77; 10 + 265 + 5];
     assert_eq!(batch(&mut store, &list, &mut area).answer_bytes, 280);
@@ -139,7 +149,7 @@ fn whole_case_of_the_batch_program() {
     assert_eq!(area[..15], output);
 }
 
-fn set_head(areas: &mut Areas, numbers: [u32; 5]) {
+fn set_head(areas: &mut Areas, numbers: [u32; 6]) {
     for (index, number) in numbers.iter().enumerate() {
         set_number_at(&mut areas.head, index, *number);
     }
@@ -154,11 +164,18 @@ fn set_branch(areas: &mut Areas, row: usize, numbers: [u32; 3]) {
 #[test]
 fn refusal_1() {
     let mut store = made(6, 2, 2, 2);
-    set_head(&mut store, [6, 1, 0, 1, 2]);
+    set_head(&mut store, [6, 1, 0, 1, 2, 0]);
     assert_eq!(check(&store), 1);
-    set_head(&mut store, [6, 1, 0, 2, 2]);
+    set_head(&mut store, [6, 1, 0, 2, 2, 0]);
     assert_eq!(check(&store), 0);
-    for numbers in [[0, 1, 0, 0, 0], [65_537, 1, 0, 0, 0], [6, 0, 0, 0, 0], [6, 3, 0, 0, 0], [6, 1, 3, 0, 0]] {
+    for numbers in [
+        [0, 1, 0, 0, 0, 0],
+        [65_537, 1, 0, 0, 0, 0],
+        [6, 0, 0, 0, 0, 0],
+        [6, 3, 0, 0, 0, 0],
+        [6, 1, 3, 0, 0, 0],
+        [6, 1, 0, 99, 0, 33],
+    ] {
         set_head(&mut store, numbers);
         assert_eq!(check(&store), 1);
     }
@@ -177,6 +194,18 @@ fn refusal_1() {
     let mut uneven = made(6, 2, 2, 2);
     uneven.records.push(0);
     assert_eq!(check(&uneven), 1);
+    for length in [0, 12, 372, 383, 385, 396] {
+        let mut other = made(6, 2, 2, 2);
+        other.names.resize(length, 0);
+        assert_eq!(check(&other), 1);
+        assert_eq!(fresh(6, &mut other), 1);
+    }
+    for length in [20, 23, 25, 28] {
+        let mut other = made(6, 2, 2, 2);
+        other.head.resize(length, 0);
+        assert_eq!(check(&other), 1);
+        assert_eq!(fresh(6, &mut other), 1);
+    }
     assert_eq!(fresh(0, &mut areas(1, 1, 1)), 1);
     assert_eq!(fresh(65_537, &mut areas(1, 1, 1)), 1);
 }
@@ -184,7 +213,7 @@ fn refusal_1() {
 #[test]
 fn refusal_2() {
     let mut store = made(6, 2, 2, 2);
-    set_head(&mut store, [6, 2, 0, 4, 0]);
+    set_head(&mut store, [6, 2, 0, 4, 0, 0]);
     set_branch(&mut store, 0, [0, 3, 0]);
     set_branch(&mut store, 1, [4, OPEN_END, 4]);
     let before = store.clone();
@@ -194,7 +223,7 @@ fn refusal_2() {
     set_branch(&mut store, 1, [4, OPEN_END, 3]);
     assert_eq!(check(&store), 0);
     // A gap is sound up to the floor only.
-    set_head(&mut store, [6, 2, 0, 9, 6]);
+    set_head(&mut store, [6, 2, 0, 9, 6, 0]);
     set_branch(&mut store, 1, [7, OPEN_END, 3]);
     assert_eq!(check(&store), 2);
     set_branch(&mut store, 1, [6, OPEN_END, 3]);
@@ -229,7 +258,7 @@ fn refusals_4_to_10() {
     );
     assert_eq!(answers(&mut made(6, 2, 2, 1), &[mark(), mark(), mark(), mark(), revert(4)])[4], (9, 0, None));
     let mut store = made(6, 1, 2, 1);
-    set_head(&mut store, [6, 1, 0, OPEN_END, 0]);
+    set_head(&mut store, [6, 1, 0, OPEN_END, 0, 0]);
     assert_eq!(
         answers(&mut store, &[mark(), revert(OPEN_END as u64), revert(3), write(2, 9), read(2, OPEN_END as u64)]),
         [(10, 0, None), (9, 0, None), (10, 0, None), (0, OPEN_END, None), (0, OPEN_END, Some((9, OPEN_END)))]
@@ -244,8 +273,16 @@ fn stop(bytes: &[u8], room: usize) -> Report {
 fn stops_11_to_14() {
     assert_eq!(stop(&[0x40, 0, 0], 100).stop, 11);
     assert_eq!(stop(&[0; 7], 100).stop, 12);
-    assert_eq!(stop(&[0xC0, 0, 0, 0, 0, 0, 0], 100).stop, 12);
-    assert_eq!(stop(&[0xE0, 0, 0, 0, 0, 0, 0], 100).stop, 12);
+    // Names cut short; the spare bits come before.
+    assert_eq!(stop(&[0xC0, 0, 0, 0, 0, 0, 0], 100).stop, 11);
+    assert_eq!(stop(&[0xE0, 0, 0, 0, 0, 0, 0], 100).stop, 11);
+    assert_eq!(stop(&name(0, 1)[..14], 100).stop, 11);
+    assert_eq!(stop(&withdraw(1)[..14], 0).stop, 11);
+    assert_eq!(stop(&[0xC0, 0, 0, 0, 0, 0, 1], 100).stop, 13);
+    assert_eq!(stop(&[0xC0, 1, 0, 0, 0, 0, 0], 100).stop, 13);
+    assert_eq!(stop(&[0xE0, 0, 0, 0, 0, 0, 0x20], 100).stop, 13);
+    assert_eq!(stop(&withdraw(1), 4).stop, 14);
+    assert_eq!(stop(&withdraw(1), 5), Report { stop: 0, answered: 1, request_bytes: 15, answer_bytes: 5 });
     assert_eq!(stop(&[0x40, 0, 0, 0, 0, 0, 1], 100).stop, 13);
     assert_eq!(stop(&[0x40, 0, 0, 0, 0, 0, 0x20], 100).stop, 13);
     assert_eq!(stop(&write(0, 1)[..262], 0).stop, 11);
@@ -286,14 +323,21 @@ fn kept_by_branch_is_kept_by_every_moment() {
     for _ in 0..3_000 {
         let mut store = made(5, 12, 30, 30);
         for _ in 0..60 {
-            let head: Vec<u64> = (0..5).map(|index| u64::from(number_at(&store.head, index))).collect();
-            let moment = head[4] + draw(head[3] - head[4] + 1);
-            let request = match draw(10) {
+            let rows = rows(&store);
+            let (now, floor) = (u64::from(rows.head.now), u64::from(rows.head.floor));
+            let named: Vec<u64> = rows.counted_names().iter().map(|name| u64::from(name.moment)).collect();
+            let moment = match draw(4) {
+                0 if !named.is_empty() => named[draw(named.len() as u64) as usize],
+                _ => floor + draw(now - floor + 1),
+            };
+            let request = match draw(13) {
                 0..=3 => write(draw(5), b'x'),
                 4 => mark(),
                 5..=7 => revert(moment),
-                8 => reclaim(head[4] + draw(2)),
-                _ => reclaim(head[4]),
+                8 => reclaim(floor + draw(2)),
+                9 => reclaim(floor),
+                10 | 11 => name(moment, b'a' + draw(6) as u8),
+                _ => withdraw(b'a' + draw(6) as u8),
             };
             batch(&mut store, &request, &mut [0; 300]);
         }
@@ -425,4 +469,201 @@ fn slab_in_use_by_the_place_table() {
     copy.slab[8 * 256..].fill(0x99);
     let reads: Vec<Vec<u8>> = (0..20).map(|address| read(address, 2)).collect();
     assert_eq!(answers(&mut copy, &reads), answers(&mut store, &reads));
+}
+
+// ---------------------------------------------------------------------------------------------
+// Document 02, Three: commissioned states by name
+
+/// The name table as text, the letter of each name and its moment; the rows behind are zero.
+fn names_of(areas: &Areas) -> String {
+    let rows = rows(areas);
+    let counted = rows.counted_names();
+    assert!(rows.names[counted.len()..].iter().all(|row| (row.bytes, row.moment) == ([0; 8], 0)));
+    counted.iter().map(|row| format!("{}{} ", char::from(row.bytes[0]), row.moment)).collect()
+}
+
+/// Address 5 has page A from moment 0, B from 1, C from 2 on; now is 3.
+fn three_pages() -> Areas {
+    let mut store = made(64, 16, 128, 128);
+    answers(&mut store, &[write(5, b'A'), mark(), write(5, b'B'), mark(), write(5, b'C'), mark()]);
+    store
+}
+
+#[test]
+fn a_named_moment_below_the_floor() {
+    let mut store = three_pages();
+    assert_eq!(answers(&mut store, &[name(0, b'x')]), [(0, 0, None)]);
+    // B goes, A is kept for the name.
+    assert_eq!(answers(&mut store, &[reclaim(2)]), [(0, 1, None)]);
+    assert_eq!(
+        answers(&mut store, &[read(5, 0), read(4, 0), read(5, 1), read(5, 2)]),
+        [(0, 0, Some((b'A', 0))), (0, 0, None), (8, 0, None), (0, 2, Some((b'C', 2)))]
+    );
+    // It can be named again, and reverted to; a reclaim to it gets 8.
+    assert_eq!(answers(&mut store, &[name(0, b'y'), name(1, b'z')]), [(0, 0, None), (8, 0, None)]);
+    assert_eq!(answers(&mut store, &[reclaim(0), reclaim(1)]), [(8, 0, None), (8, 0, None)]);
+    assert_eq!(answers(&mut store, &[revert(0), read(5, 4)]), [(0, 3, None), (0, 4, Some((b'A', 0)))]);
+    assert_eq!(answers(&mut store, &[revert(1)]), [(8, 0, None)]);
+    assert_eq!(names_of(&store), "x0 y0 ");
+    assert_eq!(check(&store), 0);
+}
+
+#[test]
+fn a_name_withdrawn() {
+    let mut store = three_pages();
+    answers(&mut store, &[name(0, b'x'), name(0, b'y'), reclaim(3)]);
+    assert_eq!(number_at(&store.head, 2), 2);
+    // The other name still stands for the moment.
+    assert_eq!(answers(&mut store, &[withdraw(b'x'), read(5, 0)]), [(0, 0, None), (0, 0, Some((b'A', 0)))]);
+    let places = store.places.clone();
+    assert_eq!(
+        answers(&mut store, &[withdraw(b'y'), read(5, 0), revert(0), name(0, b'x')]),
+        [(0, 0, None), (8, 0, None), (8, 0, None), (8, 0, None)]
+    );
+    // Its page is there until the next reclaim, to any moment.
+    assert_eq!((number_at(&store.head, 2), &store.places), (2, &places));
+    assert_eq!(answers(&mut store, &[reclaim(3)]), [(0, 1, None)]);
+    assert_eq!(number_at(&store.head, 2), 1);
+    // At the floor or above, a moment without its name is readable all the same.
+    answers(&mut store, &[mark(), name(3, b'x')]);
+    assert_eq!(answers(&mut store, &[withdraw(b'x'), read(5, 3)]), [(0, 3, None), (0, 3, Some((b'C', 2)))]);
+}
+
+#[test]
+fn names_stand_in_the_order_given() {
+    let mut store = three_pages();
+    answers(&mut store, &[name(2, b'x'), name(0, b'y'), name(1, b'z'), name(1, b'u')]);
+    assert_eq!(names_of(&store), "x2 y0 z1 u1 ");
+    assert_eq!(answers(&mut store, &[withdraw(b'y')]), [(0, 0, None)]);
+    assert_eq!(names_of(&store), "x2 z1 u1 ");
+    assert_eq!(answers(&mut store, &[withdraw(b'x'), name(0, b'x')]), [(0, 2, None), (0, 0, None)]);
+    assert_eq!(names_of(&store), "z1 u1 x0 ");
+    assert_eq!(answers(&mut store, &[withdraw(b'x'), withdraw(b'z'), withdraw(b'u')]).len(), 3);
+    assert_eq!(names_of(&store), "");
+    assert!(store.names.iter().all(|byte| *byte == 0));
+    // Bytes of rows past the count are carried along, and not looked at.
+    store.names.fill(0x55);
+    assert_eq!(answers(&mut store, &[withdraw(0x55), name(1, 0x55)]), [(17, 0, None), (0, 1, None)]);
+    assert_eq!(store.names[..12], [0x55, 0x55, 0x55, 0x55, 0x55, 0x55, 0x55, 0x55, 0, 0, 0, 1]);
+    assert!(store.names[12..].iter().all(|byte| *byte == 0x55));
+}
+
+#[test]
+fn refusals_of_names() {
+    let mut store = three_pages();
+    // The open moment, and later ones.
+    assert_eq!(answers(&mut store, &[name(3, b'x'), name(4, b'x')]), [(9, 0, None), (9, 0, None)]);
+    assert_eq!(answers(&mut store, &[withdraw(b'x')]), [(17, 0, None)]);
+    // 15 for this moment and for another; all eight bytes are compared.
+    assert_eq!(
+        answers(&mut store, &[name(1, b'x'), name(1, b'x'), name(2, b'x')])[1..],
+        [(15, 0, None), (15, 0, None)]
+    );
+    for byte in 0..8 {
+        let mut other = name(1, b'x');
+        other[7 + byte] = b'y';
+        let mut back = withdraw(b'x');
+        back[7 + byte] = b'y';
+        let list = [back.clone(), other.clone(), other, back.clone(), back];
+        assert_eq!(
+            answers(&mut store, &list),
+            [(17, 0, None), (0, 1, None), (15, 0, None), (0, 1, None), (17, 0, None)]
+        );
+    }
+    // Eight zero bytes are a name.
+    assert_eq!(
+        answers(&mut store, &[withdraw(0), name(1, 0), withdraw(0)]),
+        [(17, 0, None), (0, 1, None), (0, 1, None)]
+    );
+    // 32 names: 8 and 9 before 15, 15 before 16.
+    answers(&mut store, &[reclaim(1)]);
+    let more: Vec<Vec<u8>> = (1..32).map(|letter| name(2, letter)).collect();
+    assert!(answers(&mut store, &more).iter().all(|answer| *answer == (0, 2, None)));
+    assert_eq!(number_at(&store.head, 5), 32);
+    let before = store.clone();
+    assert_eq!(
+        answers(
+            &mut store,
+            &[name(2, 32), name(2, 31), name(1, b'x'), name(3, 31), name(3, 32), name(0, 31), name(0, 32)]
+        ),
+        [(16, 0, None), (15, 0, None), (15, 0, None), (9, 0, None), (9, 0, None), (8, 0, None), (8, 0, None)]
+    );
+    assert_eq!(store, before);
+    assert_eq!(
+        answers(&mut store, &[withdraw(32), withdraw(31), name(1, 32)]),
+        [(17, 0, None), (0, 2, None), (0, 1, None)]
+    );
+    assert_eq!(check(&store), 0);
+}
+
+#[test]
+fn a_reclaim_keeps_branches_of_named_moments() {
+    // Branches 0 to 1, 2 to 3 cut at 0, 4 cut at 2, and 5 on, cut at 0.
+    let mut store = made(6, 4, 8, 8);
+    let list = [write(1, b'A'), mark(), write(1, b'B'), revert(0), write(2, b'C'), mark(), revert(2), revert(0)];
+    assert!(answers(&mut store, &list).iter().all(|answer| answer.0 == 0));
+    assert_eq!(number_at(&store.head, 1), 4);
+    let mut other = store.clone();
+    assert_eq!(answers(&mut other, &[reclaim(5)]), [(0, 2, None)]);
+    assert_eq!(number_at(&other.head, 1), 2);
+    // With a name for moment 4 the whole way from there is kept.
+    assert_eq!(answers(&mut store, &[name(4, b'x'), reclaim(5)]), [(0, 4, None), (0, 1, None)]);
+    assert_eq!(number_at(&store.head, 1), 4);
+    assert_eq!(
+        answers(&mut store, &[read(1, 4), read(2, 4), read(2, 5), read(2, 3)]),
+        [(0, 4, Some((b'A', 0))), (0, 4, Some((b'C', 2))), (0, 5, None), (8, 0, None)]
+    );
+    assert_eq!(answers(&mut store, &[withdraw(b'x'), reclaim(5)]), [(0, 4, None), (0, 1, None)]);
+    assert_eq!(number_at(&store.head, 1), 2);
+}
+
+#[test]
+fn a_revert_with_now_at_the_floor() {
+    let mut store = three_pages();
+    answers(&mut store, &[name(0, b'x'), reclaim(3)]);
+    assert_eq!(answers(&mut store, &[revert(0), read(5, 4)]), [(0, 3, None), (0, 4, Some((b'A', 0)))]);
+    // The cut lies below the floor.
+    assert_eq!(rows(&store).counted_branches()[1], Branch { start: 4, end: OPEN_END, cut: 0 });
+    // A moment that has just been sealed can be named; reclaimed past, it can still be reverted to.
+    assert_eq!(answers(&mut store, &[name(3, b'y'), reclaim(4), revert(3), read(5, 5)])[3], (0, 5, Some((b'C', 2))));
+    assert_eq!(check(&store), 0);
+}
+
+#[test]
+fn names_in_the_table_check() {
+    let mut store = three_pages();
+    answers(&mut store, &[name(0, b'x'), name(1, b'y'), name(1, b'z')]);
+    let sound = store.clone();
+    let set = |row: usize, number: usize, value: u32| {
+        let mut areas = sound.clone();
+        set_number_at(&mut areas.names, 3 * row + number, value);
+        check(&areas)
+    };
+    let (x, y) = (0x7878_7878, 0x7979_7979);
+    // The moment of a name is below now.
+    assert_eq!((set(2, 2, 2), set(2, 2, 3), set(0, 2, 4), set(1, 2, OPEN_END)), (0, 2, 2, 2));
+    // Names are different in one of their bytes.
+    assert_eq!((set(1, 0, x), set(1, 1, x), set(2, 1, y)), (0, 0, 0));
+    let mut equal = sound.clone();
+    equal.names[24..32].fill(b'x');
+    assert_eq!(check(&equal), 2);
+    // Rows past the count do not matter, and the count itself is at most 32.
+    set_number_at(&mut equal.head, 5, 2);
+    assert_eq!(check(&equal), 0);
+    set_number_at(&mut equal.head, 5, 33);
+    assert_eq!(check(&equal), 1);
+    // A gap below the floor holds no named moment.
+    set_head(&mut store, [64, 2, 0, 9, 6, 1]);
+    store.places.fill(0);
+    set_branch(&mut store, 0, [0, 3, 0]);
+    set_branch(&mut store, 1, [6, OPEN_END, 3]);
+    for (moment, due) in [(0, 0), (3, 0), (4, 2), (5, 2), (6, 0), (8, 0), (9, 2)] {
+        set_number_at(&mut store.names, 2, moment);
+        assert_eq!(check(&store), due);
+    }
+    // 2 comes before 3.
+    set_number_at(&mut store.places, 0, 1);
+    assert_eq!(check(&store), 2);
+    set_number_at(&mut store.names, 2, 8);
+    assert_eq!(check(&store), 3);
 }

@@ -1,8 +1,8 @@
 //! A host in Rust: lends areas to the static library, calls it and compares each area, byte for byte,
 //! with what the reference says.
 
-use cases::{Counts, Host};
-use reference::{slab_in_use, Areas, Report, ANSWER_BYTES, PAGE_ANSWER_BYTES};
+use cases::{Counts, Host, NUMBERS};
+use reference::{number_at, slab_in_use, Areas, Report, ANSWER_BYTES, NAME_ROW_BYTES, PAGE_ANSWER_BYTES};
 
 extern "C" {
     fn kizmoolet_fresh(
@@ -15,6 +15,8 @@ extern "C" {
         records_len: usize,
         places: *mut u8,
         places_len: usize,
+        names: *mut u8,
+        names_len: usize,
         slab: *const u8,
         slab_len: usize,
     ) -> u32;
@@ -27,6 +29,8 @@ extern "C" {
         records_len: usize,
         places: *mut u8,
         places_len: usize,
+        names: *mut u8,
+        names_len: usize,
         slab: *mut u8,
         slab_len: usize,
         batch: *const u8,
@@ -81,19 +85,21 @@ impl Lent {
     }
 }
 
-const NAMES: [&str; 5] = ["head", "branches", "records", "places", "slab"];
+const NAMES: [&str; 6] = ["head", "branches", "records", "places", "names", "slab"];
 
 #[derive(Default)]
 struct RustHost {
-    lent: [Lent; 5],
+    lent: [Lent; 6],
     batch: Lent,
     answers: Lent,
     counts: Counts,
-    seen: [u64; 16],
+    seen: [u64; NUMBERS],
     differ: u64,
     /// The call at work has been counted as differing.
     told: bool,
     printed: u64,
+    /// The first difference ends the program.
+    only_first: bool,
 }
 
 impl RustHost {
@@ -107,10 +113,13 @@ impl RustHost {
         if self.printed <= 20 {
             println!("differs at call {} of the family: {what}", self.counts.calls);
         }
+        if self.only_first {
+            std::process::exit(1);
+        }
     }
 
     fn check_margins(&mut self) {
-        for index in 0..5 {
+        for index in 0..NAMES.len() {
             if !self.lent[index].margins_hold() {
                 self.differs(&format!("bytes beside the area {}", NAMES[index]));
             }
@@ -121,7 +130,7 @@ impl RustHost {
         let mut at = 0;
         let answers = self.answers.contents();
         while at + ANSWER_BYTES <= answer_bytes {
-            self.counts.refusals[usize::from(answers[at] >> 2) & 15] += 1;
+            self.counts.refusals[usize::from(answers[at] >> 2) % NUMBERS] += 1;
             at += if answers[at] & 2 != 0 { PAGE_ANSWER_BYTES } else { ANSWER_BYTES };
         }
     }
@@ -129,7 +138,7 @@ impl RustHost {
 
 impl Host for RustHost {
     fn lend(&mut self, areas: &Areas) {
-        let list = [&areas.head, &areas.branches, &areas.records, &areas.places, &areas.slab];
+        let list = [&areas.head, &areas.branches, &areas.records, &areas.places, &areas.names, &areas.slab];
         for (lent, area) in self.lent.iter_mut().zip(list) {
             lent.fill(area);
         }
@@ -137,8 +146,9 @@ impl Host for RustHost {
 
     fn copy_onto(&mut self, onto: &Areas) {
         let mut kept: Vec<Vec<u8>> = self.lent.iter().map(|lent| lent.contents().to_vec()).collect();
-        let in_use = slab_in_use(&kept[3]);
-        kept[4].truncate(in_use);
+        let (in_use, named) = (slab_in_use(&kept[3]), number_at(&kept[0], 5) as usize);
+        kept[4].truncate(NAME_ROW_BYTES * named);
+        kept[5].truncate(in_use);
         self.lend(onto);
         for (lent, front) in self.lent.iter_mut().zip(&kept) {
             lent.lay(front);
@@ -148,7 +158,7 @@ impl Host for RustHost {
     fn fresh(&mut self, size: u32, result: u32) {
         self.counts.calls += 1;
         self.told = false;
-        let [head, branches, records, places, slab] = &mut self.lent;
+        let [head, branches, records, places, names, slab] = &mut self.lent;
         // Every area is a part of its own, as long as is said.
         let got = unsafe {
             kizmoolet_fresh(
@@ -161,11 +171,13 @@ impl Host for RustHost {
                 records.length,
                 places.address(),
                 places.length,
+                names.address(),
+                names.length,
                 slab.address(),
                 slab.length,
             )
         };
-        self.counts.stops[got as usize & 15] += 1;
+        self.counts.stops[got as usize % NUMBERS] += 1;
         if got != result {
             self.differs(&format!("a fresh store gave {got}, should {result}"));
         }
@@ -177,7 +189,7 @@ impl Host for RustHost {
         self.told = false;
         self.batch.fill(batch);
         self.answers.fill(before);
-        let [head, branches, records, places, slab] = &mut self.lent;
+        let [head, branches, records, places, names, slab] = &mut self.lent;
         let mut got = Report { stop: 0, answered: 77, request_bytes: 77, answer_bytes: 77 };
         got.stop = unsafe {
             kizmoolet_batch(
@@ -189,6 +201,8 @@ impl Host for RustHost {
                 records.length,
                 places.address(),
                 places.length,
+                names.address(),
+                names.length,
                 slab.address(),
                 slab.length,
                 self.batch.address(),
@@ -200,7 +214,7 @@ impl Host for RustHost {
                 &mut got.answer_bytes,
             )
         };
-        self.counts.stops[got.stop as usize & 15] += 1;
+        self.counts.stops[got.stop as usize % NUMBERS] += 1;
         if got != *report {
             self.differs(&format!("the batch reports {got:?}, should {report:?}"));
         } else {
@@ -221,9 +235,9 @@ impl Host for RustHost {
 
     fn compare(&mut self, areas: &Areas) {
         self.counts.compared += 1;
-        let list = [&areas.head, &areas.branches, &areas.records, &areas.places, &areas.slab];
+        let list = [&areas.head, &areas.branches, &areas.records, &areas.places, &areas.names, &areas.slab];
         let mut same = true;
-        for index in 0..5 {
+        for index in 0..NAMES.len() {
             if self.lent[index].contents() != list[index].as_slice() {
                 self.differs(&format!("the area {}", NAMES[index]));
                 same = false;
@@ -240,7 +254,7 @@ impl Host for RustHost {
             "  {name}: {} calls, {} requests answered, {} times all areas compared, {} calls differ",
             counts.calls, counts.answered, counts.compared, counts.differ
         );
-        let list = |numbers: &[u64; 16], range: std::ops::Range<usize>| {
+        let list = |numbers: &[u64; NUMBERS], range: std::ops::Range<usize>| {
             let seen = range.filter(|number| numbers[*number] != 0);
             let parts: Vec<String> = seen.map(|number| format!("{number}: {}", numbers[number])).collect();
             if parts.is_empty() {
@@ -249,8 +263,12 @@ impl Host for RustHost {
                 parts.join(", ")
             }
         };
-        println!("    results and stops {}; refusals {}", list(&counts.stops, 0..16), list(&counts.refusals, 1..16));
-        for number in 0..16 {
+        println!(
+            "    results and stops {}; refusals {}",
+            list(&counts.stops, 0..NUMBERS),
+            list(&counts.refusals, 1..NUMBERS)
+        );
+        for number in 0..NUMBERS {
             self.seen[number] += counts.stops[number] + counts.refusals[number];
         }
     }
@@ -269,10 +287,11 @@ fn work() -> bool {
     let arguments: Vec<String> = std::env::args().collect();
     let seed = arguments[1].parse().expect("a seed");
     let scale = arguments[2].parse().expect("a scale in hundredths");
-    let mut host = RustHost::default();
+    let only_first = arguments.get(4).is_some_and(|word| word == "first");
+    let mut host = RustHost { only_first, ..RustHost::default() };
     cases::all(&mut host, seed, scale, &arguments[3]);
     let missing: Vec<String> =
-        (1..15).filter(|number| host.seen[*number] == 0).map(|number| number.to_string()).collect();
+        (1..18).filter(|number| host.seen[*number] == 0).map(|number| number.to_string()).collect();
     if arguments[3] == "all" && !missing.is_empty() {
         println!("  never seen: {}", missing.join(", "));
         return false;

@@ -14,35 +14,41 @@ use Rattle.batch.proofs.batch.Tie as tie
 abbrev run-from-pt : tie.After-pt → tie.After-run
 run-from-pt c = c .before .before .before .before .before
 
-abbrev run-from-slice-known10 : tie.After-slice-known10 → tie.After-run
-run-from-slice-known10 c = run-from-pt (c .before .before .before .before .before)
+abbrev pt-from-nt : tie.After-nt → tie.After-pt
+pt-from-nt c = c .before .before
 
-abbrev slice-known2-from-check-arg : tie.After-check-arg → tie.After-slice-known2
-slice-known2-from-check-arg c = c .before .before .before .before .before
+abbrev run-from-slice-known12 : tie.After-slice-known12 → tie.After-run
+run-from-slice-known12 c = run-from-pt (pt-from-nt (c .before .before .before .before .before))
+
+abbrev slice-known3-from-check-arg : tie.After-check-arg → tie.After-slice-known3
+slice-known3-from-check-arg c = c .before .before .before .before .before
+
+abbrev check-arg-from-check-arg3 : tie.After-check-arg3 → tie.After-check-arg
+check-arg-from-check-arg3 c = c .before .before
 
 abbrev start-from-else1 : tie.Else1 → tie.Start
-start-from-else1 c = (slice-known2-from-check-arg (c .before .before .before .before .before)) .before .before
-
-abbrev check-arg-from-check-arg2 : tie.After-check-arg2 → tie.After-check-arg
-check-arg-from-check-arg2 c = c .before
+start-from-else1 c = (slice-known3-from-check-arg (check-arg-from-check-arg3 (c .before .before .before .before))) .before .before .before
 
 abbrev start-from-report : tie.After-report → tie.Start
-start-from-report c = (slice-known2-from-check-arg (check-arg-from-check-arg2 (c .before .before .before .before .before))) .before .before
+start-from-report c = (slice-known3-from-check-arg (check-arg-from-check-arg3 (c .before .before .before .before .before))) .before .before .before
 
-abbrev else1-from-run-arg5 : tie.After-run-arg5 → tie.Else1
-else1-from-run-arg5 c = c .before .before .before .before .before
+abbrev else1-from-run-arg2 : tie.After-run-arg2 → tie.Else1
+else1-from-run-arg2 c = c .before .before
 
-abbrev else1-from-slice-known10 : tie.After-slice-known10 → tie.Else1
-else1-from-slice-known10 c = else1-from-run-arg5 ((run-from-slice-known10 c) .before)
+abbrev else1-from-run-arg6 : tie.After-run-arg6 → tie.Else1
+else1-from-run-arg6 c = else1-from-run-arg2 (c .before .before .before .before)
 
-abbrev start-from-run-arg5 : tie.After-run-arg5 → tie.Start
-start-from-run-arg5 c = start-from-else1 (else1-from-run-arg5 c)
+abbrev else1-from-slice-known12 : tie.After-slice-known12 → tie.Else1
+else1-from-slice-known12 c = else1-from-run-arg6 ((run-from-slice-known12 c) .before)
 
-abbrev start-from-slice-known10 : tie.After-slice-known10 → tie.Start
-start-from-slice-known10 c = start-from-else1 (else1-from-slice-known10 c)
+abbrev start-from-run-arg6 : tie.After-run-arg6 → tie.Start
+start-from-run-arg6 c = start-from-else1 (else1-from-run-arg6 c)
+
+abbrev start-from-slice-known12 : tie.After-slice-known12 → tie.Start
+start-from-slice-known12 c = start-from-else1 (else1-from-slice-known12 c)
 
 abbrev lent : tie.Start → Tables
-lent s = tables (s .args .bt .now) (s .args .rt .now) (s .args .pt .now) (s .args .slab .now)
+lent s = tables (s .args .bt .now) (s .args .rt .now) (s .args .pt .now) (s .args .nt .now) (s .args .slab .now)
 
 -- the tables passed
 checked : (c : tie.Else1) → checkOf ((start-from-else1 c) .args .head) (lent (start-from-else1 c)) ≡ 0
@@ -66,6 +72,9 @@ same-length-3 c = search needs
 same-length-4 : tie.Need-same-length-4
 same-length-4 c = search needs
 
+same-length-5 : tie.Need-same-length-5
+same-length-5 c = search needs
+
 returns : tie.Need-returns
 returns c =
     let s = start-from-report c in
@@ -74,12 +83,9 @@ returns c =
 
 run-requires : tie.Need-run-requires
 run-requires c κs =
-    let s = start-from-run-arg5 c in
+    let s = start-from-run-arg6 c in
     let h : s .args .head .now ≤ open-end = omega (arith, s .good) in
-    checked-sound (s .args .head) (lent s) h (checked (c .before .before .before .before .before))
-
-same-length-5 : tie.Need-same-length-5
-same-length-5 c = search needs
+    checked-sound (s .args .head) (lent s) h (checked (else1-from-run-arg6 c))
 
 same-length-6 : tie.Need-same-length-6
 same-length-6 c = search needs
@@ -93,10 +99,16 @@ same-length-8 c = search needs
 same-length-9 : tie.Need-same-length-9
 same-length-9 c = search needs
 
+same-length-10 : tie.Need-same-length-10
+same-length-10 c = search needs
+
+same-length-11 : tie.Need-same-length-11
+same-length-11 c = search needs
+
 returns-2 : tie.Need-returns-2
 returns-2 c =
-    let s = start-from-slice-known10 c in
-    rw (batch-checked (s .args .head) (lent s) (s .args .input .now) (length (s .args .answers .now)) (checked (else1-from-slice-known10 c))) ((run-from-slice-known10 c) .run .ensures)
+    let s = start-from-slice-known12 c in
+    rw (batch-checked (s .args .head) (lent s) (s .args .input .now) (length (s .args .answers .now)) (checked (else1-from-slice-known12 c))) ((run-from-slice-known12 c) .run .ensures)
 
 pub batch-spec : {M : Type 1} → statement M
 batch-spec =
@@ -108,11 +120,13 @@ batch-spec =
     same-length-2
     same-length-3
     same-length-4
+    same-length-5
     returns
     run-requires
-    same-length-5
     same-length-6
     same-length-7
     same-length-8
     same-length-9
+    same-length-10
+    same-length-11
     returns-2)

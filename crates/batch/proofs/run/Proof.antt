@@ -20,44 +20,45 @@ use Rattle.batch.proofs.run.Statement.{statement}
 use Rattle.batch.proofs.run.Tie as tie
 
 abbrev Inv-loop : tie.InvT-loop
-Inv-loop bt₀ rt₀ pt₀ slab₀ input answers₀ head₀ answered₀ at₀ out₀ low₀ bt rt pt slab answers head answered at out low =
+Inv-loop bt₀ rt₀ pt₀ nt₀ slab₀ input answers₀ head₀ answered₀ at₀ out₀ low₀ bt rt pt nt slab answers head answered at out low =
     (length bt ≡ length bt₀)
     × (length rt ≡ length rt₀)
     × (length pt ≡ length pt₀)
+    × (length nt ≡ length nt₀)
     × (length slab ≡ length slab₀)
-    × Left (storeOf head₀ (tables bt₀ rt₀ pt₀ slab₀)) input answers₀ (storeOf head (tables bt rt pt slab)) answers answered at out
-    × (tables bt rt pt slab ≡ laid (storeOf head (tables bt rt pt slab)) (tables bt₀ rt₀ pt₀ slab₀))
+    × Left (storeOf head₀ (tables bt₀ rt₀ pt₀ nt₀ slab₀)) input answers₀ (storeOf head (tables bt rt pt nt slab)) answers answered at out
+    × (tables bt rt pt nt slab ≡ laid (storeOf head (tables bt rt pt nt slab)) (tables bt₀ rt₀ pt₀ nt₀ slab₀))
     × NoneBelow low pt
 
 abbrev μ-loop : tie.MeasureT-loop
-μ-loop bt₀ rt₀ pt₀ slab₀ input answers₀ head₀ answered₀ at₀ out₀ low₀ bt rt pt slab answers head answered at out low = length input - at
+μ-loop bt₀ rt₀ pt₀ nt₀ slab₀ input answers₀ head₀ answered₀ at₀ out₀ low₀ bt rt pt nt slab answers head answered at out low = length input - at
 
-abbrev start-from-slice-known : tie.After-slice-known Inv-loop μ-loop → tie.Start Inv-loop μ-loop
-start-from-slice-known c = c .before
+abbrev start-from-slice-known2 : tie.After-slice-known2 Inv-loop μ-loop → tie.Start Inv-loop μ-loop
+start-from-slice-known2 c = c .before .before
 
-abbrev start-from-slice-known5 : tie.After-slice-known5 Inv-loop μ-loop → tie.Start Inv-loop μ-loop
-start-from-slice-known5 c = start-from-slice-known (c .before .before .before .before .before)
+abbrev start-from-slice-known6 : tie.After-slice-known6 Inv-loop μ-loop → tie.Start Inv-loop μ-loop
+start-from-slice-known6 c = start-from-slice-known2 (c .before .before .before .before .before)
 
 abbrev p-from-serve-arg : tie.After-serve-arg Inv-loop μ-loop → tie.After-p Inv-loop μ-loop
 p-from-serve-arg c = c .before .before .before
 
-abbrev serve-arg-from-serve-arg4 : tie.After-serve-arg4 Inv-loop μ-loop → tie.After-serve-arg Inv-loop μ-loop
-serve-arg-from-serve-arg4 c = c .before .before .before
+abbrev serve-arg-from-serve-arg5 : tie.After-serve-arg5 Inv-loop μ-loop → tie.After-serve-arg Inv-loop μ-loop
+serve-arg-from-serve-arg5 c = c .before .before .before .before
 
 abbrev else1-from-serve : tie.After-serve Inv-loop μ-loop → tie.Else1 Inv-loop μ-loop
-else1-from-serve c = (serve-arg-from-serve-arg4 (c .before .before)) .before
+else1-from-serve c = (serve-arg-from-serve-arg5 (c .before .before)) .before
 
-abbrev p-from-serve-arg4 : tie.After-serve-arg4 Inv-loop μ-loop → tie.After-p Inv-loop μ-loop
-p-from-serve-arg4 c = p-from-serve-arg (serve-arg-from-serve-arg4 c)
+abbrev p-from-serve-arg5 : tie.After-serve-arg5 Inv-loop μ-loop → tie.After-p Inv-loop μ-loop
+p-from-serve-arg5 c = p-from-serve-arg (serve-arg-from-serve-arg5 c)
 
 abbrev answer-size-from-put-answer-arg2 : tie.After-put-answer-arg2 Inv-loop μ-loop → tie.After-answer-size Inv-loop μ-loop
 answer-size-from-put-answer-arg2 c = c .before .before .before
 
-abbrev answer-size-from-slice-known10 : tie.After-slice-known10 Inv-loop μ-loop → tie.After-answer-size Inv-loop μ-loop
-answer-size-from-slice-known10 c = answer-size-from-put-answer-arg2 (c .before .before .before)
+abbrev answer-size-from-slice-known12 : tie.After-slice-known12 Inv-loop μ-loop → tie.After-answer-size Inv-loop μ-loop
+answer-size-from-slice-known12 c = answer-size-from-put-answer-arg2 (c .before .before .before)
 
 abbrev p-from-serve : tie.After-serve Inv-loop μ-loop → tie.After-p Inv-loop μ-loop
-p-from-serve c = p-from-serve-arg4 (c .before .before)
+p-from-serve c = p-from-serve-arg5 (c .before .before)
 
 abbrev loop-from-p : tie.After-p Inv-loop μ-loop → tie.At-loop Inv-loop μ-loop
 loop-from-p c = c .before .before .before .before
@@ -68,23 +69,26 @@ loop-from-report2 c = loop-from-p (c .before .before .before)
 abbrev serve-from-pt : tie.After-pt Inv-loop μ-loop → tie.After-serve Inv-loop μ-loop
 serve-from-pt c = c .before .before .before .before .before
 
-abbrev serve-from-answer-size : tie.After-answer-size Inv-loop μ-loop → tie.After-serve Inv-loop μ-loop
-serve-from-answer-size c = serve-from-pt (c .before .before .before .before .before)
+abbrev pt-from-nt : tie.After-nt Inv-loop μ-loop → tie.After-pt Inv-loop μ-loop
+pt-from-nt c = c .before .before
 
-abbrev loop-from-serve-arg4 : tie.After-serve-arg4 Inv-loop μ-loop → tie.At-loop Inv-loop μ-loop
-loop-from-serve-arg4 c = loop-from-p (p-from-serve-arg4 c)
+abbrev serve-from-answer-size : tie.After-answer-size Inv-loop μ-loop → tie.After-serve Inv-loop μ-loop
+serve-from-answer-size c = serve-from-pt (pt-from-nt (c .before .before .before .before .before))
+
+abbrev loop-from-serve-arg5 : tie.After-serve-arg5 Inv-loop μ-loop → tie.At-loop Inv-loop μ-loop
+loop-from-serve-arg5 c = loop-from-p (p-from-serve-arg5 c)
 
 abbrev start-from-p : tie.After-p Inv-loop μ-loop → tie.Start Inv-loop μ-loop
-start-from-p c = start-from-slice-known5 ((loop-from-p c) .before)
+start-from-p c = start-from-slice-known6 ((loop-from-p c) .before)
 
 abbrev loop-from-serve : tie.After-serve Inv-loop μ-loop → tie.At-loop Inv-loop μ-loop
 loop-from-serve c = loop-from-p (p-from-serve c)
 
-abbrev slice-known5-from-loop : tie.At-loop Inv-loop μ-loop → tie.After-slice-known5 Inv-loop μ-loop
-slice-known5-from-loop c = c .before
+abbrev slice-known6-from-loop : tie.At-loop Inv-loop μ-loop → tie.After-slice-known6 Inv-loop μ-loop
+slice-known6-from-loop c = c .before
 
 abbrev start-from-report : tie.After-report Inv-loop μ-loop → tie.Start Inv-loop μ-loop
-start-from-report c = start-from-slice-known5 (slice-known5-from-loop (c .before .before .before .before .before))
+start-from-report c = start-from-slice-known6 (slice-known6-from-loop (c .before .before .before .before .before))
 
 abbrev serve-from-report3 : tie.After-report3 Inv-loop μ-loop → tie.After-serve Inv-loop μ-loop
 serve-from-report3 c = serve-from-answer-size (c .before .before)
@@ -92,14 +96,14 @@ serve-from-report3 c = serve-from-answer-size (c .before .before)
 abbrev serve-from-put-answer-arg2 : tie.After-put-answer-arg2 Inv-loop μ-loop → tie.After-serve Inv-loop μ-loop
 serve-from-put-answer-arg2 c = serve-from-answer-size (answer-size-from-put-answer-arg2 c)
 
-abbrev serve-from-slice-known10 : tie.After-slice-known10 Inv-loop μ-loop → tie.After-serve Inv-loop μ-loop
-serve-from-slice-known10 c = serve-from-answer-size (answer-size-from-slice-known10 c)
+abbrev serve-from-slice-known12 : tie.After-slice-known12 Inv-loop μ-loop → tie.After-serve Inv-loop μ-loop
+serve-from-slice-known12 c = serve-from-answer-size (answer-size-from-slice-known12 c)
 
 abbrev start-from-serve : tie.After-serve Inv-loop μ-loop → tie.Start Inv-loop μ-loop
-start-from-serve c = start-from-slice-known5 (slice-known5-from-loop (loop-from-serve c))
+start-from-serve c = start-from-slice-known6 (slice-known6-from-loop (loop-from-serve c))
 
-abbrev p-from-slice-known10 : tie.After-slice-known10 Inv-loop μ-loop → tie.After-p Inv-loop μ-loop
-p-from-slice-known10 c = p-from-serve (serve-from-slice-known10 c)
+abbrev p-from-slice-known12 : tie.After-slice-known12 Inv-loop μ-loop → tie.After-p Inv-loop μ-loop
+p-from-slice-known12 c = p-from-serve (serve-from-slice-known12 c)
 
 abbrev loop-from-report3 : tie.After-report3 Inv-loop μ-loop → tie.At-loop Inv-loop μ-loop
 loop-from-report3 c = loop-from-serve (serve-from-report3 c)
@@ -107,15 +111,15 @@ loop-from-report3 c = loop-from-serve (serve-from-report3 c)
 abbrev loop-from-put-answer-arg2 : tie.After-put-answer-arg2 Inv-loop μ-loop → tie.At-loop Inv-loop μ-loop
 loop-from-put-answer-arg2 c = loop-from-serve (serve-from-put-answer-arg2 c)
 
-abbrev loop-from-slice-known10 : tie.After-slice-known10 Inv-loop μ-loop → tie.At-loop Inv-loop μ-loop
-loop-from-slice-known10 c = loop-from-p (p-from-slice-known10 c)
+abbrev loop-from-slice-known12 : tie.After-slice-known12 Inv-loop μ-loop → tie.At-loop Inv-loop μ-loop
+loop-from-slice-known12 c = loop-from-p (p-from-slice-known12 c)
 
-abbrev start-from-slice-known10 : tie.After-slice-known10 Inv-loop μ-loop → tie.Start Inv-loop μ-loop
-start-from-slice-known10 c = start-from-slice-known5 (slice-known5-from-loop (loop-from-slice-known10 c))
+abbrev start-from-slice-known12 : tie.After-slice-known12 Inv-loop μ-loop → tie.Start Inv-loop μ-loop
+start-from-slice-known12 c = start-from-slice-known6 (slice-known6-from-loop (loop-from-slice-known12 c))
 
 -- what is lent when the call begins
 abbrev at-start : tie.Start Inv-loop μ-loop → Tables
-at-start s = tables (s .args .bt .now) (s .args .rt .now) (s .args .pt .now) (s .args .slab .now)
+at-start s = tables (s .args .bt .now) (s .args .rt .now) (s .args .pt .now) (s .args .nt .now) (s .args .slab .now)
 
 abbrev start-tables : tie.After-serve Inv-loop μ-loop → Tables
 start-tables c = at-start (start-from-serve c)
@@ -137,16 +141,16 @@ asked c = requestOf (part-of c) ((p-from-serve c) .p .given .0 .0)
 abbrev lent : tie.After-serve Inv-loop μ-loop → Tables
 lent c =
     let l = (loop-from-serve c) .loop in
-    tables (l .bt) (l .rt) (l .pt) (l .slab)
+    tables (l .bt) (l .rt) (l .pt) (l .nt) (l .slab)
 
 abbrev store-of : tie.After-serve Inv-loop μ-loop → Store
 store-of c = storeOf ((loop-from-serve c) .loop .head) (lent c)
 
 abbrev left : tie.After-serve Inv-loop μ-loop → Tables
-left c = tables (c .serve .last .1 .0) (c .serve .last .1 .1 .0) (c .serve .last .1 .1 .1 .0) (c .serve .last .1 .1 .1 .1 .0)
+left c = tables (c .serve .last .1 .0) (c .serve .last .1 .1 .0) (c .serve .last .1 .1 .1 .0) (c .serve .last .1 .1 .1 .1 .0) (c .serve .last .1 .1 .1 .1 .1 .0)
 
 lengths : (c : tie.After-serve Inv-loop μ-loop) → SameLengths (lent c) (left c)
-lengths c = record { branches = c .serve .kept .1 .0; records = c .serve .kept .1 .1 .0 }
+lengths c = record { branches = c .serve .kept .1 .0; records = c .serve .kept .1 .1 .0; names = c .serve .kept .1 .1 .1 .1 .0 }
 
 stored : (c : tie.After-serve Inv-loop μ-loop) → storeOf (c .serve .result .head) (left c) ≡ step (store-of c) (asked c) .store
 stored c = carried-store (c .serve .ensures .0) (lengths c)
@@ -158,18 +162,19 @@ answers c = carried-answer (c .serve .ensures .0) (lengths c)
 laid-still : (c : tie.After-serve Inv-loop μ-loop) → left c ≡ laid (storeOf (c .serve .result .head) (left c)) (start-tables c)
 laid-still c =
     let i = (loop-from-serve c) .loop .inv in
-    carried-laid (c .serve .ensures .0) (lengths c) {t₀ = start-tables c} (i .5) (record { branches = i .0; records = i .1 })
+    carried-laid (c .serve .ensures .0) (lengths c) {t₀ = start-tables c} (i .6) (record { branches = i .0; records = i .1; names = i .3 })
 
-sends : (c : tie.After-serve Inv-loop μ-loop) → (c .serve .result .refusal < 64) × Lies (foundOf (c .serve .result .found)) (c .serve .last .1 .1 .1 .1 .0)
-sends c = outcome-sends (c .serve .result) (c .serve .last .1 .1 .1 .1 .0) (store-of c) (asked c) ((loop-from-serve c) .loop .inv .4 .sound) (answers c)
+sends : (c : tie.After-serve Inv-loop μ-loop) → (c .serve .result .refusal < 64) × Lies (foundOf (c .serve .result .found)) (c .serve .last .1 .1 .1 .1 .1 .0)
+sends c = outcome-sends (c .serve .result) (c .serve .last .1 .1 .1 .1 .1 .0) (store-of c) (asked c) ((loop-from-serve c) .loop .inv .5 .sound) (answers c)
 
 -- the answer's length
 sized : (c : tie.After-answer-size Inv-loop μ-loop) → c .answer-size .result ≡ length (answerBytes (step (store-of (serve-from-answer-size c)) (asked (serve-from-answer-size c)) .answer))
-sized c = c .answer-size .ensures ((serve-from-answer-size c) .serve .last .1 .1 .1 .1 .0) (sends (serve-from-answer-size c) .1) ∙ ap (λ (x : Answer). length (answerBytes x)) (answers (serve-from-answer-size c))
+sized c = c .answer-size .ensures ((serve-from-answer-size c) .serve .last .1 .1 .1 .1 .1 .0) (sends (serve-from-answer-size c) .1) ∙ ap (λ (x : Answer). length (answerBytes x)) (answers (serve-from-answer-size c))
 
 loop-holds : tie.Need-loop-holds Inv-loop μ-loop
 loop-holds c =
-    let s = start-from-slice-known5 c in (
+    let s = start-from-slice-known6 c in (
+      refl,
       refl,
       refl,
       refl,
@@ -215,20 +220,20 @@ same-length-4 c = search needs
 same-length-5 : tie.Need-same-length-5 Inv-loop μ-loop
 same-length-5 c = search needs
 
+same-length-6 : tie.Need-same-length-6 Inv-loop μ-loop
+same-length-6 c = search needs
+
 returns : tie.Need-returns Inv-loop μ-loop
 returns c =
     rw (c .report .ensures, c .before .stop-number .ensures)
-    (over-leaves (c .before .before .before .before .before .loop .inv .5)
-    (read-over ((start-from-report c) .args .input .now) (c .before .before .before .before .before .loop .at) (c .before .before .before .read-request .result) (c .before .before .before .read-request .ensures) (c .before .before .before .before .before .loop .inv .4) (c .before .before .match .keys2)))
+    (over-leaves (c .before .before .before .before .before .loop .inv .6)
+    (read-over ((start-from-report c) .args .input .now) (c .before .before .before .before .before .loop .at) (c .before .before .before .read-request .result) (c .before .before .before .read-request .ensures) (c .before .before .before .before .before .loop .inv .5) (c .before .before .match .keys2)))
 
 sub-if1 : tie.Need-sub-if1 Inv-loop μ-loop
 sub-if1 c = search needs
 
 report-requires-2 : tie.Need-report-requires-2 Inv-loop μ-loop
 report-requires-2 c κs = search needs
-
-same-length-6 : tie.Need-same-length-6 Inv-loop μ-loop
-same-length-6 c = search needs
 
 same-length-7 : tie.Need-same-length-7 Inv-loop μ-loop
 same-length-7 c = search needs
@@ -242,16 +247,22 @@ same-length-9 c = search needs
 same-length-10 : tie.Need-same-length-10 Inv-loop μ-loop
 same-length-10 c = search needs
 
+same-length-11 : tie.Need-same-length-11 Inv-loop μ-loop
+same-length-11 c = search needs
+
+same-length-12 : tie.Need-same-length-12 Inv-loop μ-loop
+same-length-12 c = search needs
+
 returns-2 : tie.Need-returns-2 Inv-loop μ-loop
 returns-2 c =
     let l = (loop-from-report2 c) .loop in
     rw (c .report2 .ensures)
-    (over-leaves (l .inv .5) (left-short (l .inv .4) (read (c .before .before .before)) (omega (arith, c .before .if1 .taken, l .inv .4 .long))))
+    (over-leaves (l .inv .6) (left-short (l .inv .5) (read (c .before .before .before)) (omega (arith, c .before .if1 .taken, l .inv .5 .long))))
 
 serve-requires : tie.Need-serve-requires Inv-loop μ-loop
 serve-requires c κs =
-    let i = (loop-from-serve-arg4 (c .before)) .loop .inv in
-    ((i .4 .sound, left-whole (i .4) (read (p-from-serve-arg4 (c .before)))), i .6)
+    let i = (loop-from-serve-arg5 (c .before)) .loop .inv in
+    ((i .5 .sound, left-whole (i .5) (read (p-from-serve-arg5 (c .before)))), i .7)
 
 answer-size-requires : tie.Need-answer-size-requires Inv-loop μ-loop
 answer-size-requires c κs = search needs
@@ -262,20 +273,23 @@ sub-if2 c = search needs
 report-requires-3 : tie.Need-report-requires-3 Inv-loop μ-loop
 report-requires-3 c κs = search needs
 
-same-length-11 : tie.Need-same-length-11 Inv-loop μ-loop
-same-length-11 c = (serve-from-report3 c) .serve .kept .1 .0 ∙ (loop-from-report3 c) .loop .inv .0
-
-same-length-12 : tie.Need-same-length-12 Inv-loop μ-loop
-same-length-12 c = (serve-from-report3 c) .serve .kept .1 .1 .0 ∙ (loop-from-report3 c) .loop .inv .1
-
 same-length-13 : tie.Need-same-length-13 Inv-loop μ-loop
-same-length-13 c = (serve-from-report3 c) .serve .kept .1 .1 .1 .0 ∙ (loop-from-report3 c) .loop .inv .2
+same-length-13 c = (serve-from-report3 c) .serve .kept .1 .0 ∙ (loop-from-report3 c) .loop .inv .0
 
 same-length-14 : tie.Need-same-length-14 Inv-loop μ-loop
-same-length-14 c = (serve-from-report3 c) .serve .kept .1 .1 .1 .1 .0 ∙ (loop-from-report3 c) .loop .inv .3
+same-length-14 c = (serve-from-report3 c) .serve .kept .1 .1 .0 ∙ (loop-from-report3 c) .loop .inv .1
 
 same-length-15 : tie.Need-same-length-15 Inv-loop μ-loop
-same-length-15 c = (loop-from-report3 c) .loop .inv .4 .long
+same-length-15 c = (serve-from-report3 c) .serve .kept .1 .1 .1 .0 ∙ (loop-from-report3 c) .loop .inv .2
+
+same-length-16 : tie.Need-same-length-16 Inv-loop μ-loop
+same-length-16 c = (serve-from-report3 c) .serve .kept .1 .1 .1 .1 .0 ∙ (loop-from-report3 c) .loop .inv .3
+
+same-length-17 : tie.Need-same-length-17 Inv-loop μ-loop
+same-length-17 c = (serve-from-report3 c) .serve .kept .1 .1 .1 .1 .1 .0 ∙ (loop-from-report3 c) .loop .inv .4
+
+same-length-18 : tie.Need-same-length-18 Inv-loop μ-loop
+same-length-18 c = (loop-from-report3 c) .loop .inv .5 .long
 
 returns-3 : tie.Need-returns-3 Inv-loop μ-loop
 returns-3 c =
@@ -283,7 +297,7 @@ returns-3 c =
     let d = serve-from-report3 c in
     rw (c .report3 .ensures)
     (over-leaves (laid-still d)
-    (left-full-page (l .4) (read (p-from-serve d)) (omega (arith, (else1-from-serve d) .if1 .left, l .4 .long)) (omega (arith, c .before .if2 .taken, sized (c .before .before), l .4 .long)) (stored d)))
+    (left-full-page (l .5) (read (p-from-serve d)) (omega (arith, (else1-from-serve d) .if1 .left, l .5 .long)) (omega (arith, c .before .if2 .taken, sized (c .before .before), l .5 .long)) (stored d)))
 
 sub-put-answer : tie.Need-sub-put-answer Inv-loop μ-loop
 sub-put-answer c = search needs
@@ -301,36 +315,37 @@ put-answer-requires c κs =
       sends d .0,
       sends d .1,
       rw (part-all (l .answers) (l .out))
-          (omega (arith, length-drop (l .out) (l .answers), c .before .before .if2 .left, c .before .before .before .answer-size .ensures (d .serve .last .1 .1 .1 .1 .0) (sends d .1), l .inv .4 .long)),
+          (omega (arith, length-drop (l .out) (l .answers), c .before .before .if2 .left, c .before .before .before .answer-size .ensures (d .serve .last .1 .1 .1 .1 .1 .0) (sends d .1), l .inv .5 .long)),
     )
 
 add-answered : tie.Need-add-answered Inv-loop μ-loop
-add-answered c = omega (arith, (loop-from-slice-known10 c) .loop .inv .4 .few, left-taken ((loop-from-slice-known10 c) .loop .inv .4) (read (p-from-slice-known10 c)), (start-from-slice-known10 c) .good)
+add-answered c = omega (arith, (loop-from-slice-known12 c) .loop .inv .5 .few, left-taken ((loop-from-slice-known12 c) .loop .inv .5) (read (p-from-slice-known12 c)), (start-from-slice-known12 c) .good)
 
 add-at : tie.Need-add-at Inv-loop μ-loop
-add-at c = omega (arith, left-taken ((loop-from-slice-known10 c) .loop .inv .4) (read (p-from-slice-known10 c)), (start-from-slice-known10 c) .good)
+add-at c = omega (arith, left-taken ((loop-from-slice-known12 c) .loop .inv .5) (read (p-from-slice-known12 c)), (start-from-slice-known12 c) .good)
 
 add-out : tie.Need-add-out Inv-loop μ-loop
-add-out c = omega (arith, c .before .before .before .before .before .if2 .left, (loop-from-slice-known10 c) .loop .inv .4 .long, (start-from-slice-known10 c) .good)
+add-out c = omega (arith, c .before .before .before .before .before .if2 .left, (loop-from-slice-known12 c) .loop .inv .5 .long, (start-from-slice-known12 c) .good)
 
 loop-less : tie.Need-loop-less Inv-loop μ-loop
-loop-less c = omega (arith, left-taken ((loop-from-slice-known10 c) .loop .inv .4) (read (p-from-slice-known10 c)))
+loop-less c = omega (arith, left-taken ((loop-from-slice-known12 c) .loop .inv .5) (read (p-from-slice-known12 c)))
 
 loop-again : tie.Need-loop-again Inv-loop μ-loop
 loop-again c =
-    let l = (loop-from-slice-known10 c) .loop in
+    let l = (loop-from-slice-known12 c) .loop in
     let i = l .inv in
-    let d = serve-from-slice-known10 c in (
+    let d = serve-from-slice-known12 c in (
       d .serve .kept .1 .0 ∙ i .0,
       d .serve .kept .1 .1 .0 ∙ i .1,
       d .serve .kept .1 .1 .1 .0 ∙ i .2,
       d .serve .kept .1 .1 .1 .1 .0 ∙ i .3,
-      left-again (i .4) (read (p-from-slice-known10 c)) (stored d) (ap answerBytes (answers d))
-          ((answer-size-from-slice-known10 c) .answer-size .ensures (d .serve .last .1 .1 .1 .1 .0) (sends d .1)) (omega (arith, c .before .before .before .before .before .if2 .left, i .4 .long))
+      d .serve .kept .1 .1 .1 .1 .1 .0 ∙ i .4,
+      left-again (i .5) (read (p-from-slice-known12 c)) (stored d) (ap answerBytes (answers d))
+          ((answer-size-from-slice-known12 c) .answer-size .ensures (d .serve .last .1 .1 .1 .1 .1 .0) (sends d .1)) (omega (arith, c .before .before .before .before .before .if2 .left, i .5 .long))
           (part-back (l .answers) (l .out) _
           ∙ ap (λ (y : List ℕ). take (l .out) (l .answers) ++ y)
           (c .before .before .put-answer .ensures .1
-          ∙ ap (λ (y : List ℕ). answerBytes (answerOf (d .serve .result) (d .serve .last .1 .1 .1 .1 .0)) ++ drop (length (answerBytes (answerOf (d .serve .result) (d .serve .last .1 .1 .1 .1 .0)))) y) (part-all (l .answers) (l .out)))),
+          ∙ ap (λ (y : List ℕ). answerBytes (answerOf (d .serve .result) (d .serve .last .1 .1 .1 .1 .1 .0)) ++ drop (length (answerBytes (answerOf (d .serve .result) (d .serve .last .1 .1 .1 .1 .1 .0)))) y) (part-all (l .answers) (l .out)))),
       laid-still d,
       d .serve .ensures .1,
     )
@@ -354,24 +369,27 @@ run-spec =
     same-length-3
     same-length-4
     same-length-5
+    same-length-6
     returns
     sub-if1
     report-requires-2
-    same-length-6
     same-length-7
     same-length-8
     same-length-9
     same-length-10
+    same-length-11
+    same-length-12
     returns-2
     serve-requires
     answer-size-requires
     sub-if2
     report-requires-3
-    same-length-11
-    same-length-12
     same-length-13
     same-length-14
     same-length-15
+    same-length-16
+    same-length-17
+    same-length-18
     returns-3
     sub-put-answer
     part-put-answer-start

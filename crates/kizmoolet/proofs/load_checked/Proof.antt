@@ -5,44 +5,43 @@ use Rattle.rows.specs.View.{Tables, withSlab}
 use Rattle.soundness.specs.Check.{checkOf}
 use Rattle.kizmoolet.proofs.load_checked.Statement.{statement}
 use Rattle.kizmoolet.proofs.load_checked.Tie as tie
-use Rattle.kizmoolet.proofs.load_checked.Reads as reads
-use Rattle.kizmoolet.proofs.load_checked.Lts as lts
-use Rattle.soundness.proofs.check.Reads as check-reads
-use Rattle.tables.proofs.load.Reads as load-reads
 
-abbrev slice-known4-from-check-arg : tie.After-check-arg → tie.After-slice-known4
-slice-known4-from-check-arg c = c .before .before .before .before .before
+abbrev load-from-pt : tie.After-pt → tie.After-load
+load-from-pt c = c .before .before .before .before .before
+
+abbrev load-from-check-arg2 : tie.After-check-arg2 → tie.After-load
+load-from-check-arg2 c = load-from-pt (c .before .before .before .before .before)
 
 abbrev load-from-check : tie.After-check → tie.After-load
-load-from-check c = (slice-known4-from-check-arg (c .before .before .before)) .before .before
+load-from-check c = load-from-check-arg2 (c .before .before .before)
 
-abbrev shared-slice-known3-from-load-arg : tie.After-load-arg → tie.After-shared-slice-known3
-shared-slice-known3-from-load-arg c = c .before .before .before .before .before
+abbrev start-from-shared-slice-known5 : tie.After-shared-slice-known5 → tie.Start
+start-from-shared-slice-known5 c = c .before .before .before .before .before
+
+abbrev start-from-load-arg : tie.After-load-arg → tie.Start
+start-from-load-arg c = start-from-shared-slice-known5 (c .before .before .before .before .before)
 
 abbrev start-from-check : tie.After-check → tie.Start
-start-from-check c = (shared-slice-known3-from-load-arg ((load-from-check c) .before .before .before)) .before .before .before
+start-from-check c = start-from-load-arg ((load-from-check c) .before .before .before .before)
 
--- src/lib.rt:124:5
 load-requires : tie.Need-load-requires
 load-requires c κs = search needs
 
--- src/lib.rt:125:5
 check-requires : tie.Need-check-requires
 check-requires c κs = search needs
 
--- src/lib.rt:110:1
 same-length : tie.Need-same-length
 same-length c = search needs
 
--- src/lib.rt:110:1
 same-length-2 : tie.Need-same-length-2
 same-length-2 c = search needs
 
--- src/lib.rt:110:1
 same-length-3 : tie.Need-same-length-3
 same-length-3 c = search needs
 
--- src/lib.rt:110:1
+same-length-4 : tie.Need-same-length-4
+same-length-4 c = search needs
+
 returns : tie.Need-returns
 returns c =
     let e = (load-from-check c) .load .ensures in
@@ -51,4 +50,4 @@ returns c =
 pub load-checked-spec : {M : Type 1} → statement M
 load-checked-spec =
     tie.close
-    (tie.spec load-requires check-requires same-length same-length-2 same-length-3 returns)
+    (tie.spec load-requires check-requires same-length same-length-2 same-length-3 same-length-4 returns)

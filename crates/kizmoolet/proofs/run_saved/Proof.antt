@@ -6,86 +6,86 @@ use Rattle.kizmoolet.proofs.Areas.{room-kept, saved-slab}
 use Rattle.kizmoolet.proofs.Batch.{run-saved-is}
 use Rattle.kizmoolet.proofs.run_saved.Statement.{statement}
 use Rattle.kizmoolet.proofs.run_saved.Tie as tie
-use Rattle.kizmoolet.proofs.run_saved.Reads as reads
-use Rattle.kizmoolet.proofs.run_saved.Lts as lts
-use Rattle.batch.proofs.run.Reads as run-reads
-use Rattle.tables.proofs.save.Reads as save-reads
 
-abbrev save-from-branches : tie.After-branches → tie.After-save
-save-from-branches c = c .before
+abbrev save-from-places : tie.After-places → tie.After-save
+save-from-places c = c .before .before .before .before .before
 
-abbrev save-from-slice-known16 : tie.After-slice-known16 → tie.After-save
-save-from-slice-known16 c = save-from-branches (c .before .before .before .before .before)
+abbrev save-from-slice-known20 : tie.After-slice-known20 → tie.After-save
+save-from-slice-known20 c = save-from-places (c .before .before .before)
 
-abbrev slice-known11-from-save-arg : tie.After-save-arg → tie.After-slice-known11
-slice-known11-from-save-arg c = c .before .before .before .before .before
+abbrev run-from-pt : tie.After-pt → tie.After-run
+run-from-pt c = c .before .before .before .before .before
 
-abbrev run-from-bt : tie.After-bt → tie.After-run
-run-from-bt c = c .before
+abbrev run-from-slice-known15 : tie.After-slice-known15 → tie.After-run
+run-from-slice-known15 c = run-from-pt (c .before .before .before .before .before)
 
-abbrev run-from-save-arg6 : tie.After-save-arg6 → tie.After-run
-run-from-save-arg6 c = run-from-bt ((slice-known11-from-save-arg (c .before .before .before .before .before)) .before .before .before .before .before)
+abbrev run-from-save-arg3 : tie.After-save-arg3 → tie.After-run
+run-from-save-arg3 c = run-from-slice-known15 (c .before .before .before .before .before)
 
-abbrev run-from-slice-known16 : tie.After-slice-known16 → tie.After-run
-run-from-slice-known16 c = run-from-save-arg6 ((save-from-slice-known16 c) .before)
+abbrev run-from-save-arg8 : tie.After-save-arg8 → tie.After-run
+run-from-save-arg8 c = run-from-save-arg3 (c .before .before .before .before .before)
 
-abbrev shared-slice-known-from-run-arg : tie.After-run-arg → tie.After-shared-slice-known
-shared-slice-known-from-run-arg c = c .before .before .before .before .before
+abbrev run-from-slice-known20 : tie.After-slice-known20 → tie.After-run
+run-from-slice-known20 c = run-from-save-arg8 ((save-from-slice-known20 c) .before)
 
-abbrev start-from-save-arg6 : tie.After-save-arg6 → tie.Start
-start-from-save-arg6 c = (shared-slice-known-from-run-arg ((run-from-save-arg6 c) .before .before .before .before .before)) .before .before .before .before .before
+abbrev start-from-slice-known5 : tie.After-slice-known5 → tie.Start
+start-from-slice-known5 c = c .before .before .before .before .before
 
-abbrev start-from-slice-known16 : tie.After-slice-known16 → tie.Start
-start-from-slice-known16 c = (shared-slice-known-from-run-arg ((run-from-slice-known16 c) .before .before .before .before .before)) .before .before .before .before .before
+abbrev start-from-slice-known9 : tie.After-slice-known9 → tie.Start
+start-from-slice-known9 c = start-from-slice-known5 (c .before .before .before .before .before)
 
--- src/lib.rt:146:9
+abbrev start-from-run-arg4 : tie.After-run-arg4 → tie.Start
+start-from-run-arg4 c = start-from-slice-known9 (c .before .before .before .before .before)
+
+abbrev start-from-save-arg8 : tie.After-save-arg8 → tie.Start
+start-from-save-arg8 c = start-from-run-arg4 ((run-from-save-arg8 c) .before .before .before)
+
+abbrev start-from-slice-known20 : tie.After-slice-known20 → tie.Start
+start-from-slice-known20 c = start-from-save-arg8 ((save-from-slice-known20 c) .before)
+
 run-requires : tie.Need-run-requires
 run-requires c κs = search needs
 
--- src/lib.rt:147:5
 save-requires : tie.Need-save-requires
 save-requires c κs =
-    let k = (run-from-save-arg6 c) .run .kept in
-    room-kept ((start-from-save-arg6 c) .pre .0) (k .1 .0) (k .1 .1 .0) (k .1 .1 .1 .0)
+    let k = (run-from-save-arg8 c) .run .kept in
+    room-kept ((start-from-save-arg8 c) .pre .0) (k .1 .0) (k .1 .1 .0) (k .1 .1 .1 .0) (k .1 .1 .1 .1 .0)
 
--- src/lib.rt:129:1
 same-length : tie.Need-same-length
 same-length c = search needs
 
--- src/lib.rt:129:1
 same-length-2 : tie.Need-same-length-2
 same-length-2 c = search needs
 
--- src/lib.rt:129:1
 same-length-3 : tie.Need-same-length-3
 same-length-3 c = search needs
 
--- src/lib.rt:129:1
 same-length-4 : tie.Need-same-length-4
 same-length-4 c = search needs
 
--- src/lib.rt:129:1
 same-length-5 : tie.Need-same-length-5
 same-length-5 c = search needs
 
--- src/lib.rt:129:1
 same-length-6 : tie.Need-same-length-6
 same-length-6 c = search needs
 
--- src/lib.rt:129:1
 same-length-7 : tie.Need-same-length-7
 same-length-7 c = search needs
 
--- src/lib.rt:129:1
 same-length-8 : tie.Need-same-length-8
 same-length-8 c = search needs
 
--- src/lib.rt:129:1
+same-length-9 : tie.Need-same-length-9
+same-length-9 c = search needs
+
+same-length-10 : tie.Need-same-length-10
+same-length-10 c = search needs
+
 returns : tie.Need-returns
 returns c =
-    let s = start-from-slice-known16 c in
-    run-saved-is (s .args .head) (tables (now (s .args .branches)) (now (s .args .records)) (now (s .args .places)) (now (s .args .slab))) (now (s .args .input)) (ap (withSlab (now (s .args .slab))) (s .pre .1 .0))
-    ((run-from-slice-known16 c) .run .ensures) (saved-slab _ _ ((save-from-slice-known16 c) .save .ensures)) refl
+    let s = start-from-slice-known20 c in
+    run-saved-is (s .args .head) (tables (now (s .args .branches)) (now (s .args .records)) (now (s .args .places)) (now (s .args .names)) (now (s .args .slab))) (now (s .args .input)) (ap (withSlab (now (s .args .slab))) (s .pre .1 .0))
+    ((run-from-slice-known20 c) .run .ensures) (saved-slab _ _ ((save-from-slice-known20 c) .save .ensures)) refl
 
 pub run-saved-spec : {M : Type 1} → statement M
 run-saved-spec =
@@ -101,4 +101,6 @@ run-saved-spec =
     same-length-6
     same-length-7
     same-length-8
+    same-length-9
+    same-length-10
     returns)

@@ -10,32 +10,27 @@ use Rattle.lent.proofs.batch_rows.Reads as reads
 use Rattle.lent.proofs.batch_rows.Lts as lts
 use Rattle.batch.proofs.batch.Reads as batch-reads
 
-abbrev start-from-slice-known2 : tie.After-slice-known2 → tie.Start
-start-from-slice-known2 c = c .before .before
+-- the start, and the call
+abbrev known : tie.After-slice-known5 → tie.Start
+known c = c .before .before .before .before .before
 
-abbrev start-from-batch-arg : tie.After-batch-arg → tie.Start
-start-from-batch-arg c = start-from-slice-known2 (c .before .before .before .before .before)
+abbrev handed : tie.After-batch-arg → tie.Start
+handed c = known (c .before .before .before)
 
-abbrev batch-from-table : tie.After-table → tie.After-batch
-batch-from-table c = c .before
+abbrev ran-from-slice-known8 : tie.After-slice-known8 → tie.After-batch
+ran-from-slice-known8 c = c .before .before .before .before
 
-abbrev batch-from-slice-known8 : tie.After-slice-known8 → tie.After-batch
-batch-from-slice-known8 c = batch-from-table (c .before .before .before .before .before)
+abbrev ran-from-slab : tie.After-slab → tie.After-batch
+ran-from-slab c = ran-from-slice-known8 (c .before .before .before .before .before)
 
-abbrev batch-from-after : tie.After-after → tie.After-batch
-batch-from-after c = batch-from-slice-known8 (c .before .before .before .before .before)
+abbrev ran : tie.After-after → tie.After-batch
+ran c = ran-from-slab (c .before .before .before .before)
 
 abbrev start-from-batch-arg2 : tie.After-batch-arg2 → tie.Start
-start-from-batch-arg2 c = start-from-batch-arg (c .before)
+start-from-batch-arg2 c = handed (c .before)
 
-abbrev start-from-table : tie.After-table → tie.Start
-start-from-table c = start-from-batch-arg2 (c .before .before .before .before .before)
-
-abbrev start-from-slice-known8 : tie.After-slice-known8 → tie.Start
-start-from-slice-known8 c = start-from-table (c .before .before .before .before .before)
-
-abbrev start-from-after : tie.After-after → tie.Start
-start-from-after c = start-from-slice-known8 (c .before .before .before .before .before)
+abbrev start : tie.After-after → tie.Start
+start c = start-from-batch-arg2 ((ran c) .before .before .before .before .before)
 
 mul-end : tie.Need-mul-end
 mul-end c = search needs
@@ -44,7 +39,7 @@ slice-relend-prefix-batch : tie.Need-slice-relend-prefix-batch
 slice-relend-prefix-batch c = search needs
 
 slice-aggregate-batch : tie.Need-slice-aggregate-batch
-slice-aggregate-batch c = sym (length-take-le ((start-from-batch-arg c) .args .count * branchWidth) ((start-from-batch-arg c) .args .table .now) ((start-from-batch-arg c) .pre))
+slice-aggregate-batch c = let s = handed c in sym (length-take-le (s .args .count * branchWidth) (s .args .table .now) (s .pre))
 
 batch-requires : tie.Need-batch-requires
 batch-requires c κs = search needs
@@ -64,13 +59,16 @@ same-length-4 c = search needs
 same-length-5 : tie.Need-same-length-5
 same-length-5 c = search needs
 
+same-length-6 : tie.Need-same-length-6
+same-length-6 c = search needs
+
 returns : tie.Need-returns
 returns c =
-    let s = (start-from-after c) .args in
-    let d = (batch-from-after c) .batch in
-    let fits : BranchesIn (s .count) (s .table .now) = (start-from-after c) .pre in (
-      rest-stays (s .count) (s .table .now) fits (s .rt .now) (s .pt .now) (s .slab .now) (d .last .1 .0) (same-length c),
-      batch-back (s .count) (s .table .now) fits (s .rt .now) (s .pt .now) (s .slab .now) (d .last .1 .0) (same-length c) (s .head) (s .input .now) (s .answers .now) (d .ensures),
+    let s = (start c) .args in
+    let d = (ran c) .batch in
+    let fits : BranchesIn (s .count) (s .table .now) = (start c) .pre in (
+      rest-stays (s .count) (s .table .now) fits (s .rt .now) (s .pt .now) (s .nt .now) (s .slab .now) (d .last .1 .0) (same-length c),
+      batch-back (s .count) (s .table .now) fits (s .rt .now) (s .pt .now) (s .nt .now) (s .slab .now) (d .last .1 .0) (same-length c) (s .head) (s .input .now) (s .answers .now) (d .ensures),
     )
 
 pub batch-rows-spec : {M : Type 1} → statement M
@@ -86,4 +84,5 @@ batch-rows-spec =
     same-length-3
     same-length-4
     same-length-5
+    same-length-6
     returns)

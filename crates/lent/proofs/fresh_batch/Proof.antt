@@ -1,5 +1,5 @@
 -- `lent::fresh_batch` meets its contract: a walk of its MIR, by hand. The head and the branch rows lie in locals of the function's own, which are lent to `make_fresh` and then to `run_batch`, each for a lifetime of the call, and come back.
--- For `make_fresh` the record and the place table are lent again and the slab is lent as a `&`; all come back (`Again.antt`). For `run_batch` they go for good.
+-- For `make_fresh` the tables of numbers are lent again and the slab is lent as a `&`; all come back (`Again.antt`). For `run_batch` they go for good.
 -- All that the proof knows of the two callees is that they meet their contracts. This file was written by tools/lent/gen_bridge.py, which works the positions out.
 -- Assumes nothing.
 use mathlib.Core.Path.{_≡_, refl, ap, _∙_}
@@ -77,7 +77,7 @@ use Rattle.lent.proofs.fresh_batch.Statement as stated
 use Rattle.lent.proofs.fresh_batch.Code as code
 
 abbrev stayed : Stays (f.ended .signature .params) (f.ended .kept)
-stayed = (stay-none (λ _. u32) yes, (gave-slice (0 ∷ []) tt (plain (λ _. u32)), (gave-slice (1 ∷ []) tt (plain (λ _. u32)), (gave-slice (2 ∷ []) tt (plain (λ _. u8)), (stay-none-slice (3 ∷ []) tt (plain (λ _. u8)) yes, (gave-slice (4 ∷ []) tt (plain (λ _. u8)), tt))))))
+stayed = (stay-none (λ _. u32) yes, (gave-slice (0 ∷ []) tt (plain (λ _. u32)), (gave-slice (1 ∷ []) tt (plain (λ _. u32)), (gave-slice (2 ∷ []) tt (plain (λ _. u32)), (gave-slice (3 ∷ []) tt (plain (λ _. u8)), (stay-none-slice (4 ∷ []) tt (plain (λ _. u8)) yes, (gave-slice (5 ∷ []) tt (plain (λ _. u8)), tt)))))))
 
 -- the contracts that the proof cites
 module _ {M : Type 1} (𝓤 : URA M) (H : Heap 𝓤) (A : Atoms 𝓤) (at-mem : Memory → SProp 𝓤) (run : Routine → Fun 𝓤) where
@@ -104,10 +104,10 @@ module _ {M : Type 1} (𝓤 : URA M) (H : Heap 𝓤) (A : Atoms 𝓤) (W : Given
 
 -- the head and the rows that the locals hold at first
 abbrev head₀ : Head
-head₀ = record { size = 0; branches = 0; records = 0; now = 0; floor = 0 }
+head₀ = record { size = 0; branches = 0; records = 0; now = 0; floor = 0; names = 0 }
 
 head-is : Is T.the-row head₀ (T′.lowered head₀ ∷ [])
-head-is = LL.owes T.the-type T′.the-laws head₀ ((refl, lit< tt), ((refl, lit< tt), ((refl, lit< tt), ((refl, lit< tt), ((refl, lit< tt), tt)))))
+head-is = LL.owes T.the-type T′.the-laws head₀ ((refl, lit< tt), ((refl, lit< tt), ((refl, lit< tt), ((refl, lit< tt), ((refl, lit< tt), ((refl, lit< tt), tt))))))
 
 abbrev rows₀ : List Branch
 rows₀ = replicate 16 zero-branch
@@ -118,8 +118,8 @@ row-is = LL.owes B.the-type B′.the-laws zero-branch ((refl, lit< tt), ((refl, 
 rows-room : Room B.the-row 16
 rows-room = (lit< tt, lit< tt)
 
-module _ {M : Type 1} (𝓤 : URA M) (H : Heap 𝓤) (A : Atoms 𝓤) (W : Given 𝓤 H A) (at-mem : Memory → SProp 𝓤) (run : Routine → Fun 𝓤) (κ₀ κ₁ κ₂ κ₃ κ₄ : Lft) (q₀ q₁ q₂ q₃ q₄ : Share) (size : ℕ) (b₁ o₁ : ℕ) (γ₁ : GName) (rt : List ℕ) (b₂ o₂ : ℕ) (γ₂ : GName) (pt : List ℕ) (b₃ o₃ : ℕ) (γ₃ : GName) (slab : List ℕ) (b₄ o₄ : ℕ) (γ₄ : GName) (input : List ℕ) (b₅ o₅ : ℕ) (γ₅ : GName) (answers : List ℕ)
-    (fits₀ : size < 2 ^ 32) (room₁ : Room u32 (length rt)) (room₂ : Room u32 (length pt)) (room₃ : Room u8 (length slab)) (room₄ : Room u8 (length input)) (room₅ : Room u8 (length answers)) where
+module _ {M : Type 1} (𝓤 : URA M) (H : Heap 𝓤) (A : Atoms 𝓤) (W : Given 𝓤 H A) (at-mem : Memory → SProp 𝓤) (run : Routine → Fun 𝓤) (κ₀ κ₁ κ₂ κ₃ κ₄ κ₅ : Lft) (q₀ q₁ q₂ q₃ q₄ q₅ : Share) (size : ℕ) (b₁ o₁ : ℕ) (γ₁ : GName) (rt : List ℕ) (b₂ o₂ : ℕ) (γ₂ : GName) (pt : List ℕ) (b₃ o₃ : ℕ) (γ₃ : GName) (nt : List ℕ) (b₄ o₄ : ℕ) (γ₄ : GName) (slab : List ℕ) (b₅ o₅ : ℕ) (γ₅ : GName) (input : List ℕ) (b₆ o₆ : ℕ) (γ₆ : GName) (answers : List ℕ)
+    (fits₀ : size < 2 ^ 32) (room₁ : Room u32 (length rt)) (room₂ : Room u32 (length pt)) (room₃ : Room u32 (length nt)) (room₄ : Room u8 (length slab)) (room₅ : Room u8 (length input)) (room₆ : Room u8 (length answers)) where
   abbrev R : RattleType
   R = T.the-row
 
@@ -143,51 +143,59 @@ module _ {M : Type 1} (𝓤 : URA M) (H : Heap 𝓤) (A : Atoms 𝓤) (W : Given
   x₃ δ z = record { ptr = (b₃, o₃); name = δ; now = z }
 
   abbrev s₃ : Val
-  s₃ = sliceVal (b₃, o₃) (length slab)
+  s₃ = sliceVal (b₃, o₃) (length nt)
 
   abbrev x₄ : GName → List ℕ → RefT (List ℕ)
   x₄ δ z = record { ptr = (b₄, o₄); name = δ; now = z }
 
   abbrev s₄ : Val
-  s₄ = sliceVal (b₄, o₄) (length input)
+  s₄ = sliceVal (b₄, o₄) (length slab)
 
   abbrev x₅ : GName → List ℕ → RefT (List ℕ)
   x₅ δ z = record { ptr = (b₅, o₅); name = δ; now = z }
 
   abbrev s₅ : Val
-  s₅ = sliceVal (b₅, o₅) (length answers)
+  s₅ = sliceVal (b₅, o₅) (length input)
+
+  abbrev x₆ : GName → List ℕ → RefT (List ℕ)
+  x₆ δ z = record { ptr = (b₆, o₆); name = δ; now = z }
+
+  abbrev s₆ : Val
+  s₆ = sliceVal (b₆, o₆) (length answers)
 
   abbrev Arg : Type 0
-  Arg = ℕ × (RefT (List ℕ) × (RefT (List ℕ) × (RefT (List ℕ) × (RefT (List ℕ) × (RefT (List ℕ) × Unit {0})))))
+  Arg = ℕ × (RefT (List ℕ) × (RefT (List ℕ) × (RefT (List ℕ) × (RefT (List ℕ) × (RefT (List ℕ) × (RefT (List ℕ) × Unit {0}))))))
 
   abbrev a : Arg
-  a = (size, ((x₁ γ₁ rt), ((x₂ γ₂ pt), ((x₃ γ₃ slab), ((x₄ γ₄ input), ((x₅ γ₅ answers), tt))))))
+  a = (size, ((x₁ γ₁ rt), ((x₂ γ₂ pt), ((x₃ γ₃ nt), ((x₄ γ₄ slab), ((x₅ γ₅ input), ((x₆ γ₆ answers), tt)))))))
 
-  abbrev at : Vals f.signature (κ₀, (κ₁, (κ₂, (κ₃, (κ₄, tt)))))
-  at = (vint w32 size ∷ [], (s₁ ∷ [], (s₂ ∷ [], (s₃ ∷ [], (s₄ ∷ [], (s₅ ∷ [], tt))))))
+  abbrev at : Vals f.signature (κ₀, (κ₁, (κ₂, (κ₃, (κ₄, (κ₅, tt))))))
+  at = (vint w32 size ∷ [], (s₁ ∷ [], (s₂ ∷ [], (s₃ ∷ [], (s₄ ∷ [], (s₅ ∷ [], (s₆ ∷ [], tt)))))))
 
   abbrev Post : Val → SProp 𝓤
-  Post = walkOf 𝓤 H A f.ended stayed (f.clauses 𝓤 H A at-mem run) .post (((κ₀, (κ₁, (κ₂, (κ₃, (κ₄, tt))))), (q₀, (q₁, (q₂, (q₃, (q₄, tt))))), tt, a, at), tt)
+  Post = walkOf 𝓤 H A f.ended stayed (f.clauses 𝓤 H A at-mem run) .post (((κ₀, (κ₁, (κ₂, (κ₃, (κ₄, (κ₅, tt)))))), (q₀, (q₁, (q₂, (q₃, (q₄, (q₅, tt)))))), tt, a, at), tt)
 
   -- what the contract says, and what each callee ensures
-  abbrev Said : Head → Report → List ℕ → List ℕ → List ℕ → List ℕ → Type 0
-  Said h′ r z-rt z-pt z-slab z-answers = BatchLeaves (freshBatch size (zeroRows rt pt slab) input (length answers)) (zeroRows rt pt slab) answers r h′ (lent (freshBatch size (zeroRows rt pt slab) input (length answers) .store .branchRows) z-rt z-pt z-slab) z-answers
+  abbrev Said : Head → Report → List ℕ → List ℕ → List ℕ → List ℕ → List ℕ → Type 0
+  Said h′ r z-rt z-pt z-nt z-slab z-answers = BatchLeaves (freshBatch size (zeroRows rt pt nt slab) input (length answers)) (zeroRows rt pt nt slab) answers r h′ (lent (freshBatch size (zeroRows rt pt nt slab) input (length answers) .store .branchRows) z-rt z-pt z-nt z-slab) z-answers
 
-  abbrev Made : ℕ → Head → List Branch → List ℕ → List ℕ → Type 0
-  Made r h₁ b₁ rt₁ pt₁ = FreshLeaves head₀ (zeroRows rt pt slab) size r h₁ (lent b₁ rt₁ pt₁ slab)
+  abbrev Made : ℕ → Head → List Branch → List ℕ → List ℕ → List ℕ → Type 0
+  Made r h₁ b₁ rt₁ pt₁ nt₁ = FreshLeaves head₀ (zeroRows rt pt nt slab) size r h₁ (lent b₁ rt₁ pt₁ nt₁ slab)
 
-  abbrev Ran : Head → List Branch → List ℕ → List ℕ → Report → Head → List Branch → List ℕ → List ℕ → List ℕ → List ℕ → Type 0
-  Ran h₁ b₁ rt₁ pt₁ r h₂ b₂ rt₂ pt₂ slab₂ answers₂ = BatchLeaves (lentBatch h₁ (lent b₁ rt₁ pt₁ slab) input (length answers)) (lent b₁ rt₁ pt₁ slab) answers r h₂ (lent b₂ rt₂ pt₂ slab₂) answers₂
+  abbrev Ran : Head → List Branch → List ℕ → List ℕ → List ℕ → Report → Head → List Branch → List ℕ → List ℕ → List ℕ → List ℕ → List ℕ → Type 0
+  Ran h₁ b₁ rt₁ pt₁ nt₁ r h₂ b₂ rt₂ pt₂ nt₂ slab₂ answers₂ = BatchLeaves (lentBatch h₁ (lent b₁ rt₁ pt₁ nt₁ slab) input (length answers)) (lent b₁ rt₁ pt₁ nt₁ slab) answers r h₂ (lent b₂ rt₂ pt₂ nt₂ slab₂) answers₂
 
   abbrev out : Head → Report → Ended
   out h′ r = record { head = h′; report = r }
 
-  exits : (h′ : Head) (r : Report) (z-rt z-pt z-slab z-answers : List ℕ) → Said h′ r z-rt z-pt z-slab z-answers → length z-rt ≡ length rt → length z-pt ≡ length pt → length z-slab ≡ length slab → length z-answers ≡ length answers
-      → Is O.the-row (out h′ r) (O′.lowered (out h′ r) ∷ []) → ent 𝓤 (⋆ 𝓤 H A ((‵ (flft κ₀ q₀) ⊛ ‵ (flft κ₁ q₁) ⊛ ‵ (flft κ₂ q₂) ⊛ ‵ (flft κ₃ q₃) ⊛ ‵ (flft κ₄ q₄) ⊛ ‵ ftrue) ∷ ‵ (finally u32 γ₁ z-rt) ∷ ‵ (finally u32 γ₂ z-pt) ∷ ‵ (finally u8 γ₃ z-slab) ∷ ‵ (ShrSlice (named 3) κ₃ u8 .own (x₄ γ₄ input) (s₄ ∷ [])) ∷ ‵ (finally u8 γ₅ z-answers) ∷ [])) (Post (O′.lowered (out h′ r)))
-  exits h′ r z-rt z-pt z-slab z-answers said same-rt same-pt same-slab same-answers is =
-      qed W ((‵ (flft κ₀ q₀) ⊛ ‵ (flft κ₁ q₁) ⊛ ‵ (flft κ₂ q₂) ⊛ ‵ (flft κ₃ q₃) ⊛ ‵ (flft κ₄ q₄) ⊛ ‵ ftrue) ∷ ‵ (finally u32 γ₁ z-rt) ∷ ‵ (finally u32 γ₂ z-pt) ∷ ‵ (finally u8 γ₃ z-slab) ∷ ‵ (ShrSlice (named 3) κ₃ u8 .own (x₄ γ₄ input) (s₄ ∷ [])) ∷ ‵ (finally u8 γ₅ z-answers) ∷ []) ∵
-      suffices ! _ (ends-at 𝓤 H A f.ended stayed (f.clauses 𝓤 H A at-mem run) W (((κ₀, (κ₁, (κ₂, (κ₃, (κ₄, tt))))), (q₀, (q₁, (q₂, (q₃, (q₄, tt))))), tt, a, at), tt) (O′.lowered (out h′ r)) (out h′ r) (tt, (z-rt, (z-pt, (z-slab, (tt, (z-answers, tt)))))) (tt, (same-rt, (same-pt, (same-slab, (tt, (same-answers, tt))))))) $ says ! said $ frame ! $
+  exits : (h′ : Head) (r : Report) (z-rt z-pt z-nt z-slab z-answers : List ℕ) → Said h′ r z-rt z-pt z-nt z-slab z-answers → length z-rt ≡ length rt → length z-pt ≡ length pt → length z-nt ≡ length nt → length z-slab ≡ length slab → length z-answers ≡ length answers
+      → Is O.the-row (out h′ r) (O′.lowered (out h′ r) ∷ []) → ent 𝓤 (⋆ 𝓤 H A ((‵ (flft κ₀ q₀) ⊛ ‵ (flft κ₁ q₁) ⊛ ‵ (flft κ₂ q₂) ⊛ ‵ (flft κ₃ q₃) ⊛ ‵ (flft κ₄ q₄) ⊛ ‵ (flft κ₅ q₅) ⊛ ‵ ftrue) ∷ ‵ (finally u32 γ₁ z-rt) ∷ ‵ (finally u32 γ₂ z-pt) ∷ ‵ (finally u32 γ₃ z-nt) ∷ ‵ (finally u8 γ₄ z-slab) ∷ ‵ (ShrSlice (named 4) κ₄ u8 .own (x₅ γ₅ input) (s₅ ∷ [])) ∷ ‵ (finally u8 γ₆ z-answers) ∷ [])) (Post (O′.lowered (out h′ r)))
+  exits h′ r z-rt z-pt z-nt z-slab z-answers said same-rt same-pt same-nt same-slab same-answers is =
+      qed W ((‵ (flft κ₀ q₀) ⊛ ‵ (flft κ₁ q₁) ⊛ ‵ (flft κ₂ q₂) ⊛ ‵ (flft κ₃ q₃) ⊛ ‵ (flft κ₄ q₄) ⊛ ‵ (flft κ₅ q₅) ⊛ ‵ ftrue) ∷ ‵ (finally u32 γ₁ z-rt) ∷ ‵ (finally u32 γ₂ z-pt) ∷ ‵ (finally u32 γ₃ z-nt) ∷ ‵ (finally u8 γ₄ z-slab) ∷ ‵ (ShrSlice (named 4) κ₄ u8 .own (x₅ γ₅ input) (s₅ ∷ [])) ∷ ‵ (finally u8 γ₆ z-answers) ∷ []) ∵
+      suffices ! _ (ends-at 𝓤 H A f.ended stayed (f.clauses 𝓤 H A at-mem run) W (((κ₀, (κ₁, (κ₂, (κ₃, (κ₄, (κ₅, tt)))))), (q₀, (q₁, (q₂, (q₃, (q₄, (q₅, tt)))))), tt, a, at), tt) (O′.lowered (out h′ r)) (out h′ r) (tt, (z-rt, (z-pt, (z-nt, (z-slab, (tt, (z-answers, tt))))))) (tt, (same-rt, (same-pt, (same-nt, (same-slab, (tt, (same-answers, tt)))))))) $ says ! said $ frame ! $
       nothing ! $
+      move ! (6 ∷ 0 ∷ []) $
+      fjoin ! $
       move ! (5 ∷ 0 ∷ []) $
       fjoin ! $
       move ! (4 ∷ 0 ∷ []) $
@@ -218,36 +226,38 @@ module _ {M : Type 1} (𝓤 : URA M) (H : Heap 𝓤) (A : Atoms 𝓤) (W : Given
     abbrev t : Val
     t = sliceVal (m, 0) 16
 
-    abbrev to-make : ℕ → ℕ → ℕ → ℕ → ℕ → GName → GName → GName → GName → GName → Mk 𝓤 H A at-mem run .Ghost
-    to-make ν₁ ν₂ ν₃ ν₄ ν₅ δ₁ δ₂ δ₃ δ₄ δ₅ = (((ν₁ ∷ [], (ν₂ ∷ [], (ν₃ ∷ [], (ν₄ ∷ [], (ν₅ ∷ [], tt))))), (fullShare, (fullShare, (fullShare, (fullShare, (fullShare, tt))))), tt, (x δ₁ head₀, (size, (at-list m δ₂ rows₀, ((x₁ δ₃ rt), ((x₂ δ₄ pt), ((x₃ δ₅ slab), tt)))))), (vptr l 0 ∷ [], (vint w32 size ∷ [], (t ∷ [], (s₁ ∷ [], (s₂ ∷ [], (s₃ ∷ [], tt))))))), tt)
+    abbrev to-make : ℕ → ℕ → ℕ → ℕ → ℕ → ℕ → GName → GName → GName → GName → GName → GName → Mk 𝓤 H A at-mem run .Ghost
+    to-make ν₁ ν₂ ν₃ ν₄ ν₅ ν₆ δ₁ δ₂ δ₃ δ₄ δ₅ δ₆ = (((ν₁ ∷ [], (ν₂ ∷ [], (ν₃ ∷ [], (ν₄ ∷ [], (ν₅ ∷ [], (ν₆ ∷ [], tt)))))), (fullShare, (fullShare, (fullShare, (fullShare, (fullShare, (fullShare, tt)))))), tt, (x δ₁ head₀, (size, (at-list m δ₂ rows₀, ((x₁ δ₃ rt), ((x₂ δ₄ pt), ((x₃ δ₅ nt), ((x₄ δ₆ slab), tt))))))), (vptr l 0 ∷ [], (vint w32 size ∷ [], (t ∷ [], (s₁ ∷ [], (s₂ ∷ [], (s₃ ∷ [], (s₄ ∷ [], tt)))))))), tt)
 
-    goes-make : (ν₁ ν₂ ν₃ ν₄ ν₅ : ℕ) (δ₁ δ₂ δ₃ δ₄ δ₅ : GName) → ent 𝓤 (⋆ 𝓤 H A ((‵ (flft (ν₁ ∷ []) fullShare) ⊛ ‵ (flft (ν₂ ∷ []) fullShare) ⊛ ‵ (flft (ν₃ ∷ []) fullShare) ⊛ ‵ (flft (ν₄ ∷ []) fullShare) ⊛ ‵ (flft (ν₅ ∷ []) fullShare) ⊛ ‵ ftrue) ∷ ‵ (owns (MutRef (named 0) (ν₁ ∷ []) R ∷ u32 ∷ MutSlice (named 1) (ν₂ ∷ []) S ∷ MutSlice (named 2) (ν₃ ∷ []) u32 ∷ MutSlice (named 3) (ν₄ ∷ []) u32 ∷ ShrSlice (named 4) (ν₅ ∷ []) u8 ∷ []) (x δ₁ head₀, (size, (at-list m δ₂ rows₀, ((x₁ δ₃ rt), ((x₂ δ₄ pt), ((x₃ δ₅ slab), tt)))))) (vptr l 0 ∷ [], (vint w32 size ∷ [], (t ∷ [], (s₁ ∷ [], (s₂ ∷ [], (s₃ ∷ [], tt))))))) ∷ [])) (Mk 𝓤 H A at-mem run .pre (to-make ν₁ ν₂ ν₃ ν₄ ν₅ δ₁ δ₂ δ₃ δ₄ δ₅))
-    goes-make ν₁ ν₂ ν₃ ν₄ ν₅ δ₁ δ₂ δ₃ δ₄ δ₅ = qed W ((‵ (flft (ν₁ ∷ []) fullShare) ⊛ ‵ (flft (ν₂ ∷ []) fullShare) ⊛ ‵ (flft (ν₃ ∷ []) fullShare) ⊛ ‵ (flft (ν₄ ∷ []) fullShare) ⊛ ‵ (flft (ν₅ ∷ []) fullShare) ⊛ ‵ ftrue) ∷ ‵ (owns (MutRef (named 0) (ν₁ ∷ []) R ∷ u32 ∷ MutSlice (named 1) (ν₂ ∷ []) S ∷ MutSlice (named 2) (ν₃ ∷ []) u32 ∷ MutSlice (named 3) (ν₄ ∷ []) u32 ∷ ShrSlice (named 4) (ν₅ ∷ []) u8 ∷ []) (x δ₁ head₀, (size, (at-list m δ₂ rows₀, ((x₁ δ₃ rt), ((x₂ δ₄ pt), ((x₃ δ₅ slab), tt)))))) (vptr l 0 ∷ [], (vint w32 size ∷ [], (t ∷ [], (s₁ ∷ [], (s₂ ∷ [], (s₃ ∷ [], tt))))))) ∷ []) ∵ join ! $ nothing ! $ move ! (1 ∷ 0 ∷ []) $ done !
+    goes-make : (ν₁ ν₂ ν₃ ν₄ ν₅ ν₆ : ℕ) (δ₁ δ₂ δ₃ δ₄ δ₅ δ₆ : GName) → ent 𝓤 (⋆ 𝓤 H A ((‵ (flft (ν₁ ∷ []) fullShare) ⊛ ‵ (flft (ν₂ ∷ []) fullShare) ⊛ ‵ (flft (ν₃ ∷ []) fullShare) ⊛ ‵ (flft (ν₄ ∷ []) fullShare) ⊛ ‵ (flft (ν₅ ∷ []) fullShare) ⊛ ‵ (flft (ν₆ ∷ []) fullShare) ⊛ ‵ ftrue) ∷ ‵ (owns (MutRef (named 0) (ν₁ ∷ []) R ∷ u32 ∷ MutSlice (named 1) (ν₂ ∷ []) S ∷ MutSlice (named 2) (ν₃ ∷ []) u32 ∷ MutSlice (named 3) (ν₄ ∷ []) u32 ∷ MutSlice (named 4) (ν₅ ∷ []) u32 ∷ ShrSlice (named 5) (ν₆ ∷ []) u8 ∷ []) (x δ₁ head₀, (size, (at-list m δ₂ rows₀, ((x₁ δ₃ rt), ((x₂ δ₄ pt), ((x₃ δ₅ nt), ((x₄ δ₆ slab), tt))))))) (vptr l 0 ∷ [], (vint w32 size ∷ [], (t ∷ [], (s₁ ∷ [], (s₂ ∷ [], (s₃ ∷ [], (s₄ ∷ [], tt)))))))) ∷ [])) (Mk 𝓤 H A at-mem run .pre (to-make ν₁ ν₂ ν₃ ν₄ ν₅ ν₆ δ₁ δ₂ δ₃ δ₄ δ₅ δ₆))
+    goes-make ν₁ ν₂ ν₃ ν₄ ν₅ ν₆ δ₁ δ₂ δ₃ δ₄ δ₅ δ₆ = qed W ((‵ (flft (ν₁ ∷ []) fullShare) ⊛ ‵ (flft (ν₂ ∷ []) fullShare) ⊛ ‵ (flft (ν₃ ∷ []) fullShare) ⊛ ‵ (flft (ν₄ ∷ []) fullShare) ⊛ ‵ (flft (ν₅ ∷ []) fullShare) ⊛ ‵ (flft (ν₆ ∷ []) fullShare) ⊛ ‵ ftrue) ∷ ‵ (owns (MutRef (named 0) (ν₁ ∷ []) R ∷ u32 ∷ MutSlice (named 1) (ν₂ ∷ []) S ∷ MutSlice (named 2) (ν₃ ∷ []) u32 ∷ MutSlice (named 3) (ν₄ ∷ []) u32 ∷ MutSlice (named 4) (ν₅ ∷ []) u32 ∷ ShrSlice (named 5) (ν₆ ∷ []) u8 ∷ []) (x δ₁ head₀, (size, (at-list m δ₂ rows₀, ((x₁ δ₃ rt), ((x₂ δ₄ pt), ((x₃ δ₅ nt), ((x₄ δ₆ slab), tt))))))) (vptr l 0 ∷ [], (vint w32 size ∷ [], (t ∷ [], (s₁ ∷ [], (s₂ ∷ [], (s₃ ∷ [], (s₄ ∷ [], tt)))))))) ∷ []) ∵ join ! $ nothing ! $ move ! (1 ∷ 0 ∷ []) $ done !
 
-    abbrev to-run : Head → List Branch → List ℕ → List ℕ → ℕ → ℕ → GName → GName → Rn 𝓤 H A at-mem run .Ghost
-    to-run h₁ b₁ rt₁ pt₁ ν₁ ν₂ δ₁ δ₂ = (((ν₁ ∷ [], (ν₂ ∷ [], (κ₀, (κ₁, (κ₂, (κ₃, (κ₄, tt))))))), (fullShare, (fullShare, (q₀, (q₁, (q₂, (q₃, (q₄, tt))))))), tt, (x δ₁ h₁, (at-list m δ₂ b₁, ((x₁ γ₁ rt₁), ((x₂ γ₂ pt₁), ((x₃ γ₃ slab), ((x₄ γ₄ input), ((x₅ γ₅ answers), tt))))))), (vptr l 0 ∷ [], (t ∷ [], (s₁ ∷ [], (s₂ ∷ [], (s₃ ∷ [], (s₄ ∷ [], (s₅ ∷ [], tt)))))))), tt)
+    abbrev to-run : Head → List Branch → List ℕ → List ℕ → List ℕ → ℕ → ℕ → GName → GName → Rn 𝓤 H A at-mem run .Ghost
+    to-run h₁ b₁ rt₁ pt₁ nt₁ ν₁ ν₂ δ₁ δ₂ = (((ν₁ ∷ [], (ν₂ ∷ [], (κ₀, (κ₁, (κ₂, (κ₃, (κ₄, (κ₅, tt)))))))), (fullShare, (fullShare, (q₀, (q₁, (q₂, (q₃, (q₄, (q₅, tt)))))))), tt, (x δ₁ h₁, (at-list m δ₂ b₁, ((x₁ γ₁ rt₁), ((x₂ γ₂ pt₁), ((x₃ γ₃ nt₁), ((x₄ γ₄ slab), ((x₅ γ₅ input), ((x₆ γ₆ answers), tt)))))))), (vptr l 0 ∷ [], (t ∷ [], (s₁ ∷ [], (s₂ ∷ [], (s₃ ∷ [], (s₄ ∷ [], (s₅ ∷ [], (s₆ ∷ [], tt))))))))), tt)
 
-    goes-run : (h₁ : Head) (b₁ : List Branch) (rt₁ pt₁ : List ℕ) (ν₁ ν₂ : ℕ) (δ₁ δ₂ : GName) → ent 𝓤 (⋆ 𝓤 H A ((‵ (flft (ν₁ ∷ []) fullShare) ⊛ ‵ (flft (ν₂ ∷ []) fullShare) ⊛ ‵ (flft κ₀ q₀) ⊛ ‵ (flft κ₁ q₁) ⊛ ‵ (flft κ₂ q₂) ⊛ ‵ (flft κ₃ q₃) ⊛ ‵ (flft κ₄ q₄) ⊛ ‵ ftrue) ∷ ‵ (owns (MutRef (named 0) (ν₁ ∷ []) R ∷ MutSlice (named 1) (ν₂ ∷ []) S ∷ MutSlice (named 0) κ₀ u32 ∷ MutSlice (named 1) κ₁ u32 ∷ MutSlice (named 2) κ₂ u8 ∷ ShrSlice (named 3) κ₃ u8 ∷ MutSlice (named 4) κ₄ u8 ∷ []) (x δ₁ h₁, (at-list m δ₂ b₁, ((x₁ γ₁ rt₁), ((x₂ γ₂ pt₁), ((x₃ γ₃ slab), ((x₄ γ₄ input), ((x₅ γ₅ answers), tt))))))) (vptr l 0 ∷ [], (t ∷ [], (s₁ ∷ [], (s₂ ∷ [], (s₃ ∷ [], (s₄ ∷ [], (s₅ ∷ [], tt)))))))) ∷ [])) (Rn 𝓤 H A at-mem run .pre (to-run h₁ b₁ rt₁ pt₁ ν₁ ν₂ δ₁ δ₂))
-    goes-run h₁ b₁ rt₁ pt₁ ν₁ ν₂ δ₁ δ₂ = qed W ((‵ (flft (ν₁ ∷ []) fullShare) ⊛ ‵ (flft (ν₂ ∷ []) fullShare) ⊛ ‵ (flft κ₀ q₀) ⊛ ‵ (flft κ₁ q₁) ⊛ ‵ (flft κ₂ q₂) ⊛ ‵ (flft κ₃ q₃) ⊛ ‵ (flft κ₄ q₄) ⊛ ‵ ftrue) ∷ ‵ (owns (MutRef (named 0) (ν₁ ∷ []) R ∷ MutSlice (named 1) (ν₂ ∷ []) S ∷ MutSlice (named 0) κ₀ u32 ∷ MutSlice (named 1) κ₁ u32 ∷ MutSlice (named 2) κ₂ u8 ∷ ShrSlice (named 3) κ₃ u8 ∷ MutSlice (named 4) κ₄ u8 ∷ []) (x δ₁ h₁, (at-list m δ₂ b₁, ((x₁ γ₁ rt₁), ((x₂ γ₂ pt₁), ((x₃ γ₃ slab), ((x₄ γ₄ input), ((x₅ γ₅ answers), tt))))))) (vptr l 0 ∷ [], (t ∷ [], (s₁ ∷ [], (s₂ ∷ [], (s₃ ∷ [], (s₄ ∷ [], (s₅ ∷ [], tt)))))))) ∷ []) ∵ join ! $ nothing ! $ move ! (1 ∷ 0 ∷ []) $ done !
+    goes-run : (h₁ : Head) (b₁ : List Branch) (rt₁ pt₁ nt₁ : List ℕ) (ν₁ ν₂ : ℕ) (δ₁ δ₂ : GName) → ent 𝓤 (⋆ 𝓤 H A ((‵ (flft (ν₁ ∷ []) fullShare) ⊛ ‵ (flft (ν₂ ∷ []) fullShare) ⊛ ‵ (flft κ₀ q₀) ⊛ ‵ (flft κ₁ q₁) ⊛ ‵ (flft κ₂ q₂) ⊛ ‵ (flft κ₃ q₃) ⊛ ‵ (flft κ₄ q₄) ⊛ ‵ (flft κ₅ q₅) ⊛ ‵ ftrue) ∷ ‵ (owns (MutRef (named 0) (ν₁ ∷ []) R ∷ MutSlice (named 1) (ν₂ ∷ []) S ∷ MutSlice (named 0) κ₀ u32 ∷ MutSlice (named 1) κ₁ u32 ∷ MutSlice (named 2) κ₂ u32 ∷ MutSlice (named 3) κ₃ u8 ∷ ShrSlice (named 4) κ₄ u8 ∷ MutSlice (named 5) κ₅ u8 ∷ []) (x δ₁ h₁, (at-list m δ₂ b₁, ((x₁ γ₁ rt₁), ((x₂ γ₂ pt₁), ((x₃ γ₃ nt₁), ((x₄ γ₄ slab), ((x₅ γ₅ input), ((x₆ γ₆ answers), tt)))))))) (vptr l 0 ∷ [], (t ∷ [], (s₁ ∷ [], (s₂ ∷ [], (s₃ ∷ [], (s₄ ∷ [], (s₅ ∷ [], (s₆ ∷ [], tt))))))))) ∷ [])) (Rn 𝓤 H A at-mem run .pre (to-run h₁ b₁ rt₁ pt₁ nt₁ ν₁ ν₂ δ₁ δ₂))
+    goes-run h₁ b₁ rt₁ pt₁ nt₁ ν₁ ν₂ δ₁ δ₂ = qed W ((‵ (flft (ν₁ ∷ []) fullShare) ⊛ ‵ (flft (ν₂ ∷ []) fullShare) ⊛ ‵ (flft κ₀ q₀) ⊛ ‵ (flft κ₁ q₁) ⊛ ‵ (flft κ₂ q₂) ⊛ ‵ (flft κ₃ q₃) ⊛ ‵ (flft κ₄ q₄) ⊛ ‵ (flft κ₅ q₅) ⊛ ‵ ftrue) ∷ ‵ (owns (MutRef (named 0) (ν₁ ∷ []) R ∷ MutSlice (named 1) (ν₂ ∷ []) S ∷ MutSlice (named 0) κ₀ u32 ∷ MutSlice (named 1) κ₁ u32 ∷ MutSlice (named 2) κ₂ u32 ∷ MutSlice (named 3) κ₃ u8 ∷ ShrSlice (named 4) κ₄ u8 ∷ MutSlice (named 5) κ₅ u8 ∷ []) (x δ₁ h₁, (at-list m δ₂ b₁, ((x₁ γ₁ rt₁), ((x₂ γ₂ pt₁), ((x₃ γ₃ nt₁), ((x₄ γ₄ slab), ((x₅ γ₅ input), ((x₆ γ₆ answers), tt)))))))) (vptr l 0 ∷ [], (t ∷ [], (s₁ ∷ [], (s₂ ∷ [], (s₃ ∷ [], (s₄ ∷ [], (s₅ ∷ [], (s₆ ∷ [], tt))))))))) ∷ []) ∵ join ! $ nothing ! $ move ! (1 ∷ 0 ∷ []) $ done !
 
   module _ (C : Calls 𝓤 H) (Λ : Loops 𝓤 H) (fm : FmC 𝓤 H (W .laws) C) (known-make : Triple 𝓤 (C #lent·make-fresh) (Mk 𝓤 H A at-mem run)) (known-run : Triple 𝓤 (C #lent·run-batch) (Rn 𝓤 H A at-mem run)) where
-    walk : ent 𝓤 (onEntry 𝓤 H A f.signature (κ₀, (κ₁, (κ₂, (κ₃, (κ₄, tt))))) (q₀, (q₁, (q₂, (q₃, (q₄, tt))))) a at) (WpFn 𝓤 H C Λ code.function (vint w32 size ∷ s₁ ∷ s₂ ∷ s₃ ∷ s₄ ∷ s₅ ∷ []) Post)
+    walk : ent 𝓤 (onEntry 𝓤 H A f.signature (κ₀, (κ₁, (κ₂, (κ₃, (κ₄, (κ₅, tt)))))) (q₀, (q₁, (q₂, (q₃, (q₄, (q₅, tt)))))) a at) (WpFn 𝓤 H C Λ code.function (vint w32 size ∷ s₁ ∷ s₂ ∷ s₃ ∷ s₄ ∷ s₅ ∷ s₆ ∷ []) Post)
     walk =
-        qed W ((‵ (flft κ₀ q₀) ⊛ ‵ (flft κ₁ q₁) ⊛ ‵ (flft κ₂ q₂) ⊛ ‵ (flft κ₃ q₃) ⊛ ‵ (flft κ₄ q₄) ⊛ ‵ ftrue) ∷ ‵ (owns (u32 ∷ MutSlice (named 0) κ₀ u32 ∷ MutSlice (named 1) κ₁ u32 ∷ MutSlice (named 2) κ₂ u8 ∷ ShrSlice (named 3) κ₃ u8 ∷ MutSlice (named 4) κ₄ u8 ∷ []) a at) ∷ []) ∵ enter ! C Λ code.function (vint w32 size ∷ s₁ ∷ s₂ ∷ s₃ ∷ s₄ ∷ s₅ ∷ []) _ $
-        alloc1 ! (λ l₀. alloc1 ! (λ l₁. alloc1 ! (λ l₂. alloc1 ! (λ l₃. alloc1 ! (λ l₄. alloc1 ! (λ l₅. alloc1 ! (λ l₆. alloc1 ! (λ l₇. alloc1 ! (λ l₈. alloc1 ! (λ l₉. alloc1 ! (λ l₁₀. alloc1 ! (λ l₁₁. alloc1 ! (λ l₁₂. alloc1 ! (λ l₁₃. alloc1 ! (λ l₁₄. alloc1 ! (λ l₁₅. alloc1 ! (λ l₁₆. alloc1 ! (λ l₁₇. alloc1 ! (λ l₁₈. alloc1 ! (λ l₁₉. alloc1 ! (λ l₂₀. alloc1 ! (λ l₂₁. alloc1 ! (λ l₂₂. alloc1 ! (λ l₂₃. alloc1 ! (λ l₂₄. alloc1 ! (λ l₂₅. alloc1 ! (λ l₂₆. alloc1 ! (λ l₂₇. alloc1 ! (λ l₂₈. alloc1 ! (λ l₂₉. alloc1 ! (λ l₃₀. alloc1 ! (λ l₃₁. alloc1 ! (λ l₃₂. alloc0 ! $ params1 ! $
-        pass1 ! (init ! 62 refl (tt, record { fits = fits₀ })) $ pass1 ! (init ! 60 refl (tt, (tt, (record { fits = room₁ .0 }, tt)))) $ pass1 ! (init ! 58 refl (tt, (tt, (record { fits = room₂ .0 }, tt)))) $ pass1 ! (init ! 56 refl (tt, (tt, (record { fits = room₃ .0 }, tt)))) $ pass1 ! (init ! 54 refl (tt, (tt, (record { fits = room₄ .0 }, tt)))) $ pass1 ! (init ! 52 refl (tt, (tt, (record { fits = room₅ .0 }, tt)))) $ pass0 ! $
+        qed W ((‵ (flft κ₀ q₀) ⊛ ‵ (flft κ₁ q₁) ⊛ ‵ (flft κ₂ q₂) ⊛ ‵ (flft κ₃ q₃) ⊛ ‵ (flft κ₄ q₄) ⊛ ‵ (flft κ₅ q₅) ⊛ ‵ ftrue) ∷ ‵ (owns (u32 ∷ MutSlice (named 0) κ₀ u32 ∷ MutSlice (named 1) κ₁ u32 ∷ MutSlice (named 2) κ₂ u32 ∷ MutSlice (named 3) κ₃ u8 ∷ ShrSlice (named 4) κ₄ u8 ∷ MutSlice (named 5) κ₅ u8 ∷ []) a at) ∷ []) ∵ enter ! C Λ code.function (vint w32 size ∷ s₁ ∷ s₂ ∷ s₃ ∷ s₄ ∷ s₅ ∷ s₆ ∷ []) _ $
+        alloc1 ! (λ l₀. alloc1 ! (λ l₁. alloc1 ! (λ l₂. alloc1 ! (λ l₃. alloc1 ! (λ l₄. alloc1 ! (λ l₅. alloc1 ! (λ l₆. alloc1 ! (λ l₇. alloc1 ! (λ l₈. alloc1 ! (λ l₉. alloc1 ! (λ l₁₀. alloc1 ! (λ l₁₁. alloc1 ! (λ l₁₂. alloc1 ! (λ l₁₃. alloc1 ! (λ l₁₄. alloc1 ! (λ l₁₅. alloc1 ! (λ l₁₆. alloc1 ! (λ l₁₇. alloc1 ! (λ l₁₈. alloc1 ! (λ l₁₉. alloc1 ! (λ l₂₀. alloc1 ! (λ l₂₁. alloc1 ! (λ l₂₂. alloc1 ! (λ l₂₃. alloc1 ! (λ l₂₄. alloc1 ! (λ l₂₅. alloc1 ! (λ l₂₆. alloc1 ! (λ l₂₇. alloc1 ! (λ l₂₈. alloc1 ! (λ l₂₉. alloc1 ! (λ l₃₀. alloc1 ! (λ l₃₁. alloc1 ! (λ l₃₂. alloc1 ! (λ l₃₃. alloc1 ! (λ l₃₄. alloc1 ! (λ l₃₅. alloc1 ! (λ l₃₆. alloc1 ! (λ l₃₇. alloc0 ! $ params1 ! $
+        pass1 ! (init ! 72 refl (tt, record { fits = fits₀ })) $ pass1 ! (init ! 70 refl (tt, (tt, (record { fits = room₁ .0 }, tt)))) $ pass1 ! (init ! 68 refl (tt, (tt, (record { fits = room₂ .0 }, tt)))) $ pass1 ! (init ! 66 refl (tt, (tt, (record { fits = room₃ .0 }, tt)))) $ pass1 ! (init ! 64 refl (tt, (tt, (record { fits = room₄ .0 }, tt)))) $ pass1 ! (init ! 62 refl (tt, (tt, (record { fits = room₅ .0 }, tt)))) $ pass1 ! (init ! 60 refl (tt, (tt, (record { fits = room₆ .0 }, tt)))) $ pass0 ! $
         -- the head and the rows in their locals, as what a reference borrows
-        assigns ! (agg ! (and-then ! (lit ! tt) (and-then ! (lit ! tt) (and-then ! (lit ! tt) (and-then ! (lit ! tt) (and-then ! (lit ! tt) (no-more !))))))) (from ! (stop !)) (init ! 50 refl (LL.lawful T.the-type T′.the-laws 𝓤 H A W .typed head₀ _ head-is .0)) $
-        assigns ! (agg ! (and-then ! (lit ! tt) (and-then ! (lit ! tt) (and-then ! (lit ! tt) (no-more !))))) (from ! (stop !)) (init ! 48 refl (LL.lawful B.the-type B′.the-laws 𝓤 H A W .typed zero-branch _ row-is .0)) $
-        assigns ! (rep ! 16 (load ! (from ! (stop !)) (look ! 48 refl))) (from ! (stop !)) (init ! 46 refl (repeat-typed S zero-branch (B′.lowered zero-branch) row-is 𝓤 H A W 16 (LL.lawful B.the-type B′.the-laws 𝓤 H A W))) $
+        assigns ! (agg ! (and-then ! (lit ! tt) (and-then ! (lit ! tt) (and-then ! (lit ! tt) (and-then ! (lit ! tt) (and-then ! (lit ! tt) (and-then ! (lit ! tt) (no-more !)))))))) (from ! (stop !)) (init ! 58 refl (LL.lawful T.the-type T′.the-laws 𝓤 H A W .typed head₀ _ head-is .0)) $
+        assigns ! (agg ! (and-then ! (lit ! tt) (and-then ! (lit ! tt) (and-then ! (lit ! tt) (no-more !))))) (from ! (stop !)) (init ! 56 refl (LL.lawful B.the-type B′.the-laws 𝓤 H A W .typed zero-branch _ row-is .0)) $
+        assigns ! (rep ! 16 (load ! (from ! (stop !)) (look ! 56 refl))) (from ! (stop !)) (init ! 54 refl (repeat-typed S zero-branch (B′.lowered zero-branch) row-is 𝓤 H A W 16 (LL.lawful B.the-type B′.the-laws 𝓤 H A W))) $
         owned ! R (Is R) ((LL.makes T.the-type T′.the-plain) 𝓤 H A) head₀ _ head-is $
-        move ! (51 ∷ 0 ∷ []) $
-        use2 W (‵ (mem R .lies head₀ l₇ 0)) (lies-in 𝓤 H A W l₇ head₀ (T′.lowered head₀)) $
+        move ! (59 ∷ 0 ∷ []) $
+        use2 W (‵ (mem R .lies head₀ l₈ 0)) (lies-in 𝓤 H A W l₈ head₀ (T′.lowered head₀)) $
         use0 W (‵ (Array S 16 .own rows₀ (repeat-val 16 (B′.lowered zero-branch) ∷ []))) (repeat-own S zero-branch (B′.lowered zero-branch) row-is 𝓤 H A W 16 ((LL.makes B.the-type B′.the-plain) 𝓤 H A) (LL.copy B.the-type B′.the-copy 𝓤 H A W)) $
-        move ! (48 ∷ 0 ∷ []) $
-        use2 W (‵ (here S 16 l₉ rows₀)) (array-in 𝓤 H A W S 16 l₉ tt rows₀ (repeat-val 16 (B′.lowered zero-branch))) $
+        move ! (56 ∷ 0 ∷ []) $
+        use2 W (‵ (here S 16 l₁₀ rows₀)) (array-in 𝓤 H A W S 16 l₁₀ tt rows₀ (repeat-val 16 (B′.lowered zero-branch))) $
         -- what the parameters own, and the tokens, taken apart
-        move ! (67 ∷ []) $
+        move ! (77 ∷ []) $
+        fsplit ! $
+        move ! (1 ∷ []) $
         fsplit ! $
         move ! (1 ∷ []) $
         fsplit ! $
@@ -261,9 +271,11 @@ module _ {M : Type 1} (𝓤 : URA M) (H : Heap 𝓤) (A : Atoms 𝓤) (W : Given
         fsplit ! $
         move ! (1 ∷ []) $
         drop ! $
-        move ! (5 ∷ []) $
+        move ! (6 ∷ []) $
         drop ! $
-        move ! (71 ∷ []) $
+        move ! (82 ∷ []) $
+        split ! $
+        move ! (1 ∷ []) $
         split ! $
         move ! (1 ∷ []) $
         split ! $
@@ -275,51 +287,60 @@ module _ {M : Type 1} (𝓤 : URA M) (H : Heap 𝓤) (A : Atoms 𝓤) (W : Given
         split ! $
         move ! (1 ∷ []) $
         drop ! $
-        -- ---- make_fresh(&mut head, size, &mut branches, rt, pt, slab)
-        assigns ! (addr ! (from ! (stop !))) (from ! (stop !)) (init ! 52 refl (tt, tt)) $
-        assigns ! (addr ! (from ! (stop !))) (from ! (stop !)) (init ! 50 refl (tt, tt)) $
-        assigns ! (agg ! (and-then ! (load ! (from ! (stop !)) (look ! 50 refl)) (and-then ! (lit ! tt) (no-more !)))) (from ! (stop !)) (init ! 48 refl (tt, (tt, (record { fits = lit< tt }, tt)))) $
-        assigns ! (addr ! (from ! (fld ! refl (hop ! (look-in ! 70 (sub ! 0 refl (whole !))) (stop !))))) (from ! (stop !)) (init ! 46 refl (tt, tt)) $
-        assigns ! (agg ! (and-then ! (load ! (from ! (stop !)) (look ! 46 refl)) (and-then ! (load ! (from ! (fld ! refl (stop !))) (look-in ! 70 (sub ! 1 refl (whole !)))) (no-more !)))) (from ! (stop !)) (init ! 44 refl (tt, (tt, (record { fits = room₁ .0 }, tt)))) $
-        assigns ! (addr ! (from ! (fld ! refl (hop ! (look-in ! 68 (sub ! 0 refl (whole !))) (stop !))))) (from ! (stop !)) (init ! 42 refl (tt, tt)) $
-        assigns ! (agg ! (and-then ! (load ! (from ! (stop !)) (look ! 42 refl)) (and-then ! (load ! (from ! (fld ! refl (stop !))) (look-in ! 68 (sub ! 1 refl (whole !)))) (no-more !)))) (from ! (stop !)) (init ! 40 refl (tt, (tt, (record { fits = room₂ .0 }, tt)))) $
-        assigns ! (addr ! (from ! (fld ! refl (hop ! (look-in ! 66 (sub ! 0 refl (whole !))) (stop !))))) (from ! (stop !)) (init ! 38 refl (tt, tt)) $
-        assigns ! (agg ! (and-then ! (load ! (from ! (stop !)) (look ! 38 refl)) (and-then ! (load ! (from ! (fld ! refl (stop !))) (look-in ! 66 (sub ! 1 refl (whole !)))) (no-more !)))) (from ! (stop !)) (init ! 36 refl (tt, (tt, (record { fits = room₃ .0 }, tt)))) $
+        -- ---- make_fresh(&mut head, size, &mut branches, rt, pt, nt, slab)
+        assigns ! (addr ! (from ! (stop !))) (from ! (stop !)) (init ! 62 refl (tt, tt)) $
+        assigns ! (addr ! (from ! (stop !))) (from ! (stop !)) (init ! 60 refl (tt, tt)) $
+        assigns ! (agg ! (and-then ! (load ! (from ! (stop !)) (look ! 60 refl)) (and-then ! (lit ! tt) (no-more !)))) (from ! (stop !)) (init ! 58 refl (tt, (tt, (record { fits = lit< tt }, tt)))) $
+        assigns ! (addr ! (from ! (fld ! refl (hop ! (look-in ! 82 (sub ! 0 refl (whole !))) (stop !))))) (from ! (stop !)) (init ! 56 refl (tt, tt)) $
+        assigns ! (agg ! (and-then ! (load ! (from ! (stop !)) (look ! 56 refl)) (and-then ! (load ! (from ! (fld ! refl (stop !))) (look-in ! 82 (sub ! 1 refl (whole !)))) (no-more !)))) (from ! (stop !)) (init ! 54 refl (tt, (tt, (record { fits = room₁ .0 }, tt)))) $
+        assigns ! (addr ! (from ! (fld ! refl (hop ! (look-in ! 80 (sub ! 0 refl (whole !))) (stop !))))) (from ! (stop !)) (init ! 52 refl (tt, tt)) $
+        assigns ! (agg ! (and-then ! (load ! (from ! (stop !)) (look ! 52 refl)) (and-then ! (load ! (from ! (fld ! refl (stop !))) (look-in ! 80 (sub ! 1 refl (whole !)))) (no-more !)))) (from ! (stop !)) (init ! 50 refl (tt, (tt, (record { fits = room₂ .0 }, tt)))) $
+        assigns ! (addr ! (from ! (fld ! refl (hop ! (look-in ! 78 (sub ! 0 refl (whole !))) (stop !))))) (from ! (stop !)) (init ! 48 refl (tt, tt)) $
+        assigns ! (agg ! (and-then ! (load ! (from ! (stop !)) (look ! 48 refl)) (and-then ! (load ! (from ! (fld ! refl (stop !))) (look-in ! 78 (sub ! 1 refl (whole !)))) (no-more !)))) (from ! (stop !)) (init ! 46 refl (tt, (tt, (record { fits = room₃ .0 }, tt)))) $
+        assigns ! (addr ! (from ! (fld ! refl (hop ! (look-in ! 76 (sub ! 0 refl (whole !))) (stop !))))) (from ! (stop !)) (init ! 44 refl (tt, tt)) $
+        assigns ! (agg ! (and-then ! (load ! (from ! (stop !)) (look ! 44 refl)) (and-then ! (load ! (from ! (fld ! refl (stop !))) (look-in ! 76 (sub ! 1 refl (whole !)))) (no-more !)))) (from ! (stop !)) (init ! 42 refl (tt, (tt, (record { fits = room₄ .0 }, tt)))) $
         lft-new ! tt (λ ν₁.
         lft-new ! tt (λ ν₂.
         lft-new ! tt (λ ν₃.
         lft-new ! tt (λ ν₄.
         lft-new ! tt (λ ν₅.
-        move ! (16 ∷ []) $
-        use1 W (later (some (λ (δ : GName). ‵ (MutRef (named 0) (ν₁ ∷ []) R .own (x l₇ l₉ δ head₀) (vptr l₇ 0 ∷ [])) ⊛ ‵ (flent (ν₁ ∷ []) (Body (mem R) l₇ 0 δ))))) (lends-ref 𝓤 H A W R (named 0) (ν₁ ∷ []) head₀ l₇ 0) $ await ! tt $
+        lft-new ! tt (λ ν₆.
+        move ! (19 ∷ []) $
+        use1 W (later (some (λ (δ : GName). ‵ (MutRef (named 0) (ν₁ ∷ []) R .own (x l₈ l₁₀ δ head₀) (vptr l₈ 0 ∷ [])) ⊛ ‵ (flent (ν₁ ∷ []) (Body (mem R) l₈ 0 δ))))) (lends-ref 𝓤 H A W R (named 0) (ν₁ ∷ []) head₀ l₈ 0) $ await ! tt $
         pick ! (λ δ₁.
         split ! $
-        move ! (17 ∷ []) $
-        use1 W (later (some (λ (δ : GName). ‵ (MutSlice (named 1) (ν₂ ∷ []) S .own (at-list l₉ δ rows₀) (sliceVal (l₉, 0) 16 ∷ [])) ⊛ ‵ (flent (ν₂ ∷ []) (Held S 16 l₉ 0 δ))))) (lends-local 𝓤 H A W S 16 l₉ (named 1) (ν₂ ∷ []) rows₀ rows-room) $ await ! tt $
+        move ! (20 ∷ []) $
+        use1 W (later (some (λ (δ : GName). ‵ (MutSlice (named 1) (ν₂ ∷ []) S .own (at-list l₁₀ δ rows₀) (sliceVal (l₁₀, 0) 16 ∷ [])) ⊛ ‵ (flent (ν₂ ∷ []) (Held S 16 l₁₀ 0 δ))))) (lends-local 𝓤 H A W S 16 l₁₀ (named 1) (ν₂ ∷ []) rows₀ rows-room) $ await ! tt $
         pick ! (λ δ₂.
         split ! $
-        move ! (18 ∷ 13 ∷ []) $
+        move ! (21 ∷ 15 ∷ []) $
         use2 W (later (some (λ (δ : GName). ‵ (MutSlice (named 2) (ν₃ ∷ []) u32 .own (x₁ δ rt) (s₁ ∷ [])) ⊛ ‵ (LentAgain u32 κ₀ (ν₃ ∷ []) q₀ γ₁ b₁ o₁ δ rt)))) (lends-again u32 κ₀ (ν₃ ∷ []) q₀ γ₁ b₁ o₁ 𝓤 H A W (named 0) (named 2) rt) $ await ! tt $
         pick ! (λ δ₃.
         split ! $
-        move ! (18 ∷ 14 ∷ []) $
+        move ! (21 ∷ 16 ∷ []) $
         use2 W (later (some (λ (δ : GName). ‵ (MutSlice (named 3) (ν₄ ∷ []) u32 .own (x₂ δ pt) (s₂ ∷ [])) ⊛ ‵ (LentAgain u32 κ₁ (ν₄ ∷ []) q₁ γ₂ b₂ o₂ δ pt)))) (lends-again u32 κ₁ (ν₄ ∷ []) q₁ γ₂ b₂ o₂ 𝓤 H A W (named 1) (named 3) pt) $ await ! tt $
         pick ! (λ δ₄.
         split ! $
-        move ! (18 ∷ 15 ∷ []) $
-        use2 W (later (some (λ (δ : GName). ‵ (ShrSlice (named 4) (ν₅ ∷ []) u8 .own (x₃ δ slab) (s₃ ∷ [])) ⊛ ‵ (LentShared u8 κ₂ (ν₅ ∷ []) q₂ γ₃ b₃ o₃ 𝓤 H A W (named 2) (named 4) slab)))) (lends-shared u8 κ₂ (ν₅ ∷ []) q₂ γ₃ b₃ o₃ 𝓤 H A W (named 2) (named 4) slab) $ await ! tt $
+        move ! (21 ∷ 17 ∷ []) $
+        use2 W (later (some (λ (δ : GName). ‵ (MutSlice (named 4) (ν₅ ∷ []) u32 .own (x₃ δ nt) (s₃ ∷ [])) ⊛ ‵ (LentAgain u32 κ₂ (ν₅ ∷ []) q₂ γ₃ b₃ o₃ δ nt)))) (lends-again u32 κ₂ (ν₅ ∷ []) q₂ γ₃ b₃ o₃ 𝓤 H A W (named 2) (named 4) nt) $ await ! tt $
         pick ! (λ δ₅.
         split ! $
+        move ! (21 ∷ 18 ∷ []) $
+        use2 W (later (some (λ (δ : GName). ‵ (ShrSlice (named 5) (ν₆ ∷ []) u8 .own (x₄ δ slab) (s₄ ∷ [])) ⊛ ‵ (LentShared u8 κ₃ (ν₆ ∷ []) q₃ γ₄ b₄ o₄ 𝓤 H A W (named 3) (named 5) slab)))) (lends-shared u8 κ₃ (ν₆ ∷ []) q₃ γ₄ b₄ o₄ 𝓤 H A W (named 3) (named 5) slab) $ await ! tt $
+        pick ! (λ δ₆.
+        split ! $
         nothing ! $
-        move ! (11 ∷ 0 ∷ []) $
+        move ! (13 ∷ 0 ∷ []) $
         join ! $
-        move ! (11 ∷ 0 ∷ []) $
+        move ! (13 ∷ 0 ∷ []) $
         join ! $
-        move ! (11 ∷ 0 ∷ []) $
+        move ! (13 ∷ 0 ∷ []) $
         join ! $
-        move ! (11 ∷ 0 ∷ []) $
+        move ! (13 ∷ 0 ∷ []) $
         join ! $
-        move ! (11 ∷ 0 ∷ []) $
+        move ! (13 ∷ 0 ∷ []) $
+        join ! $
+        move ! (13 ∷ 0 ∷ []) $
         join ! $
         nothing ! $
         move ! (2 ∷ 0 ∷ []) $
@@ -330,23 +351,25 @@ module _ {M : Type 1} (𝓤 : URA M) (H : Heap 𝓤) (A : Atoms 𝓤) (W : Given
         fjoin ! $
         move ! (5 ∷ 0 ∷ []) $
         fjoin ! $
-        owned ! u32 (Is u32) (uint-makes 𝓤 H A W w32) size _ (refl, fits₀) $
-        fjoin ! $
         move ! (6 ∷ 0 ∷ []) $
         fjoin ! $
+        owned ! u32 (Is u32) (uint-makes 𝓤 H A W w32) size _ (refl, fits₀) $
+        fjoin ! $
+        move ! (7 ∷ 0 ∷ []) $
+        fjoin ! $
         move ! (1 ∷ 0 ∷ []) $
-        use2 W (raw (Mk 𝓤 H A at-mem run .pre (to-make l₇ l₉ ν₁ ν₂ ν₃ ν₄ ν₅ δ₁ δ₂ δ₃ δ₄ δ₅))) (goes-make l₇ l₉ ν₁ ν₂ ν₃ ν₄ ν₅ δ₁ δ₂ δ₃ δ₄ δ₅) $
-        -- context: [call; l-slab; l-pt; l-rt; lrows; lref; tk-answers; tk-input; own-answers; own-input; _32; _31; _30; _29; _28; _27; _26; _25; _24; _23; _22; _21; _20; _19; _18; _17; _16; _15; _14; _13; _12; _11; _10; _8; _6; _5; _4; _3; _2; _1; _0]
-        calls-at ! fm (Mk 𝓤 H A at-mem run) known-make (to-make l₇ l₉ ν₁ ν₂ ν₃ ν₄ ν₅ δ₁ δ₂ δ₃ δ₄ δ₅) (and-then ! (load ! (from ! (stop !)) (look ! 50 refl)) (and-then ! (load ! (from ! (stop !)) (look ! 70 refl)) (and-then ! (load ! (from ! (stop !)) (look ! 46 refl)) (and-then ! (load ! (from ! (stop !)) (look ! 42 refl)) (and-then ! (load ! (from ! (stop !)) (look ! 38 refl)) (and-then ! (load ! (from ! (stop !)) (look ! 34 refl)) (no-more !))))))) (λ w.
-        use1 W (later (some (λ (r : ℕ). ((‵ (flft (ν₁ ∷ []) fullShare) ⊛ ‵ (flft (ν₂ ∷ []) fullShare) ⊛ ‵ (flft (ν₃ ∷ []) fullShare) ⊛ ‵ (flft (ν₄ ∷ []) fullShare) ⊛ ‵ (flft (ν₅ ∷ []) fullShare) ⊛ ‵ ftrue) ⊛ ‵ (u32 .own r (w ∷ []))) ⊛ raw (ensured 𝓤 H A mk.ended (mk.clauses 𝓤 H A at-mem run) (ν₁ ∷ [], (ν₂ ∷ [], (ν₃ ∷ [], (ν₄ ∷ [], (ν₅ ∷ [], tt))))) (x l₇ l₉ δ₁ head₀, (size, (at-list l₉ δ₂ rows₀, ((x₁ δ₃ rt), ((x₂ δ₄ pt), ((x₃ δ₅ slab), tt)))))) tt r)))) (id⊢ 𝓤 _) $ await ! tt $
+        use2 W (raw (Mk 𝓤 H A at-mem run .pre (to-make l₈ l₁₀ ν₁ ν₂ ν₃ ν₄ ν₅ ν₆ δ₁ δ₂ δ₃ δ₄ δ₅ δ₆))) (goes-make l₈ l₁₀ ν₁ ν₂ ν₃ ν₄ ν₅ ν₆ δ₁ δ₂ δ₃ δ₄ δ₅ δ₆) $
+        -- context: [call; l-slab; l-nt; l-pt; l-rt; lrows; lref; tk-answers; tk-input; own-answers; own-input; _37; _36; _35; _34; _33; _32; _31; _30; _29; _28; _27; _26; _25; _24; _23; _22; _21; _20; _19; _18; _17; _16; _15; _14; _13; _12; _11; _9; _7; _6; _5; _4; _3; _2; _1; _0]
+        calls-at ! fm (Mk 𝓤 H A at-mem run) known-make (to-make l₈ l₁₀ ν₁ ν₂ ν₃ ν₄ ν₅ ν₆ δ₁ δ₂ δ₃ δ₄ δ₅ δ₆) (and-then ! (load ! (from ! (stop !)) (look ! 59 refl)) (and-then ! (load ! (from ! (stop !)) (look ! 81 refl)) (and-then ! (load ! (from ! (stop !)) (look ! 55 refl)) (and-then ! (load ! (from ! (stop !)) (look ! 51 refl)) (and-then ! (load ! (from ! (stop !)) (look ! 47 refl)) (and-then ! (load ! (from ! (stop !)) (look ! 43 refl)) (and-then ! (load ! (from ! (stop !)) (look ! 39 refl)) (no-more !)))))))) (λ w.
+        use1 W (later (some (λ (r : ℕ). ((‵ (flft (ν₁ ∷ []) fullShare) ⊛ ‵ (flft (ν₂ ∷ []) fullShare) ⊛ ‵ (flft (ν₃ ∷ []) fullShare) ⊛ ‵ (flft (ν₄ ∷ []) fullShare) ⊛ ‵ (flft (ν₅ ∷ []) fullShare) ⊛ ‵ (flft (ν₆ ∷ []) fullShare) ⊛ ‵ ftrue) ⊛ ‵ (u32 .own r (w ∷ []))) ⊛ raw (ensured 𝓤 H A mk.ended (mk.clauses 𝓤 H A at-mem run) (ν₁ ∷ [], (ν₂ ∷ [], (ν₃ ∷ [], (ν₄ ∷ [], (ν₅ ∷ [], (ν₆ ∷ [], tt)))))) (x l₈ l₁₀ δ₁ head₀, (size, (at-list l₁₀ δ₂ rows₀, ((x₁ δ₃ rt), ((x₂ δ₄ pt), ((x₃ δ₅ nt), ((x₄ δ₆ slab), tt))))))) tt r)))) (id⊢ 𝓤 _) $ await ! tt $
         pick ! (λ r₁.
         split ! $
         move ! (1 ∷ []) $
-        use1 W (some (λ (zs : Head × (Unit {0} × (List Branch × (List ℕ × (List ℕ × (Unit {0} × Unit {0})))))). ‵ (lasts mk.ended (ν₁ ∷ [], (ν₂ ∷ [], (ν₃ ∷ [], (ν₄ ∷ [], (ν₅ ∷ [], tt))))) (x l₇ l₉ δ₁ head₀, (size, (at-list l₉ δ₂ rows₀, ((x₁ δ₃ rt), ((x₂ δ₄ pt), ((x₃ δ₅ slab), tt)))))) zs) ⊛ raw (fact 𝓤 (Made r₁ (zs .0) (zs .1 .1 .0) (zs .1 .1 .1 .0) (zs .1 .1 .1 .1 .0))))) (id⊢ 𝓤 _) $
+        use1 W (some (λ (zs : Head × (Unit {0} × (List Branch × (List ℕ × (List ℕ × (List ℕ × (Unit {0} × Unit {0}))))))). ‵ (lasts mk.ended (ν₁ ∷ [], (ν₂ ∷ [], (ν₃ ∷ [], (ν₄ ∷ [], (ν₅ ∷ [], (ν₆ ∷ [], tt)))))) (x l₈ l₁₀ δ₁ head₀, (size, (at-list l₁₀ δ₂ rows₀, ((x₁ δ₃ rt), ((x₂ δ₄ pt), ((x₃ δ₅ nt), ((x₄ δ₆ slab), tt))))))) zs) ⊛ raw (fact 𝓤 (Made r₁ (zs .0) (zs .1 .1 .0) (zs .1 .1 .1 .0) (zs .1 .1 .1 .1 .0) (zs .1 .1 .1 .1 .1 .0))))) (id⊢ 𝓤 _) $
         pick ! (λ zs.
         split ! $
         move ! (1 ∷ []) $
-        heard ! (Made r₁ (zs .0) (zs .1 .1 .0) (zs .1 .1 .1 .0) (zs .1 .1 .1 .1 .0)) (λ made.
+        heard ! (Made r₁ (zs .0) (zs .1 .1 .0) (zs .1 .1 .1 .0) (zs .1 .1 .1 .1 .0) (zs .1 .1 .1 .1 .1 .0)) (λ made.
         fsplit ! $
         move ! (1 ∷ []) $
         fsplit ! $
@@ -366,13 +389,18 @@ module _ {M : Type 1} (𝓤 : URA M) (H : Heap 𝓤) (A : Atoms 𝓤) (W : Given
         move ! (1 ∷ []) $
         feqL ! (λ same-pt₁.
         move ! (1 ∷ []) $
+        fsplit ! $
+        fsplit ! $
+        move ! (1 ∷ []) $
+        feqL ! (λ same-nt₁.
+        move ! (1 ∷ []) $
         drop ! $
-        move ! (4 ∷ []) $
+        move ! (5 ∷ []) $
         split ! $
         move ! (1 ∷ []) $
         peeks ! u32 (Is u32) (shows 𝓤 H A u32) r₁ (w ∷ []) (λ is₁.
         drop ! $
-        land ! (from ! (stop !)) (init ! 56 refl (uint-lawful 𝓤 H A W w32 .typed r₁ _ is₁ .0)) $
+        land ! (from ! (stop !)) (init ! 66 refl (uint-lawful 𝓤 H A W w32 .typed r₁ _ is₁ .0)) $
         -- the lifetimes are ended, and what was lent comes back
         split ! $
         lft-end ! tt $
@@ -389,49 +417,57 @@ module _ {M : Type 1} (𝓤 : URA M) (H : Heap 𝓤) (A : Atoms 𝓤) (W : Given
         split ! $
         lft-end ! tt $
         move ! (1 ∷ []) $
+        split ! $
+        lft-end ! tt $
+        move ! (1 ∷ []) $
         drop ! $
-        move ! (4 ∷ 13 ∷ 8 ∷ []) $
-        use3 W (later (‵ (mem R .lies (zs .0) l₇ 0))) (ref-back 𝓤 H A W R (ν₁ ∷ []) δ₁ (zs .0) l₇ 0) $ await ! tt $
-        move ! (4 ∷ 11 ∷ 7 ∷ []) $
-        use3 W (later (‵ (here S 16 l₉ (zs .1 .1 .0)))) (local-back 𝓤 H A W S 16 l₉ (ν₂ ∷ []) δ₂ (zs .1 .1 .0)) $ await ! tt $
-        move ! (4 ∷ 9 ∷ 6 ∷ []) $
+        move ! (5 ∷ 16 ∷ 10 ∷ []) $
+        use3 W (later (‵ (mem R .lies (zs .0) l₈ 0))) (ref-back 𝓤 H A W R (ν₁ ∷ []) δ₁ (zs .0) l₈ 0) $ await ! tt $
+        move ! (5 ∷ 14 ∷ 9 ∷ []) $
+        use3 W (later (‵ (here S 16 l₁₀ (zs .1 .1 .0)))) (local-back 𝓤 H A W S 16 l₁₀ (ν₂ ∷ []) δ₂ (zs .1 .1 .0)) $ await ! tt $
+        move ! (5 ∷ 12 ∷ 8 ∷ []) $
         use3 W (later (‵ (MutSlice (named 0) κ₀ u32 .own (x₁ γ₁ (zs .1 .1 .1 .0)) (s₁ ∷ [])) ⊛ ‵ (flft κ₀ q₀))) (comes-back u32 κ₀ (ν₃ ∷ []) q₀ γ₁ b₁ o₁ 𝓤 H A W (named 0) (named 2) rt δ₃ (zs .1 .1 .1 .0) room₁ same-rt₁) $ await ! tt $
         split ! $
-        move ! (5 ∷ 8 ∷ 6 ∷ []) $
+        move ! (6 ∷ 11 ∷ 8 ∷ []) $
         use3 W (later (‵ (MutSlice (named 1) κ₁ u32 .own (x₂ γ₂ (zs .1 .1 .1 .1 .0)) (s₂ ∷ [])) ⊛ ‵ (flft κ₁ q₁))) (comes-back u32 κ₁ (ν₄ ∷ []) q₁ γ₂ b₂ o₂ 𝓤 H A W (named 1) (named 3) pt δ₄ (zs .1 .1 .1 .1 .0) room₂ same-pt₁) $ await ! tt $
         split ! $
-        move ! (6 ∷ 7 ∷ []) $
-        use2 W (later (‵ (MutSlice (named 2) κ₂ u8 .own (x₃ γ₃ slab) (s₃ ∷ [])) ⊛ ‵ (flft κ₂ q₂))) (shared-back u8 κ₂ (ν₅ ∷ []) q₂ γ₃ b₃ o₃ 𝓤 H A W (named 2) (named 4) slab room₃) $ await ! tt $
+        move ! (7 ∷ 10 ∷ 8 ∷ []) $
+        use3 W (later (‵ (MutSlice (named 2) κ₂ u32 .own (x₃ γ₃ (zs .1 .1 .1 .1 .1 .0)) (s₃ ∷ [])) ⊛ ‵ (flft κ₂ q₂))) (comes-back u32 κ₂ (ν₅ ∷ []) q₂ γ₃ b₃ o₃ 𝓤 H A W (named 2) (named 4) nt δ₅ (zs .1 .1 .1 .1 .1 .0) room₃ same-nt₁) $ await ! tt $
         split ! $
-        -- ---- run_batch(&mut head, &mut branches, rt, pt, slab, input, answers)
-        assigns ! (addr ! (from ! (stop !))) (from ! (stop !)) (init ! 34 refl (tt, tt)) $
-        assigns ! (addr ! (from ! (stop !))) (from ! (stop !)) (init ! 32 refl (tt, tt)) $
-        assigns ! (agg ! (and-then ! (load ! (from ! (stop !)) (look ! 32 refl)) (and-then ! (lit ! tt) (no-more !)))) (from ! (stop !)) (init ! 30 refl (tt, (tt, (record { fits = lit< tt }, tt)))) $
-        assigns ! (addr ! (from ! (fld ! refl (hop ! (look-in ! 70 (sub ! 0 refl (whole !))) (stop !))))) (from ! (stop !)) (init ! 28 refl (tt, tt)) $
-        assigns ! (agg ! (and-then ! (load ! (from ! (stop !)) (look ! 28 refl)) (and-then ! (load ! (from ! (fld ! refl (stop !))) (look-in ! 70 (sub ! 1 refl (whole !)))) (no-more !)))) (from ! (stop !)) (init ! 26 refl (tt, (tt, (record { fits = room₁ .0 }, tt)))) $
-        assigns ! (addr ! (from ! (fld ! refl (hop ! (look-in ! 68 (sub ! 0 refl (whole !))) (stop !))))) (from ! (stop !)) (init ! 24 refl (tt, tt)) $
-        assigns ! (agg ! (and-then ! (load ! (from ! (stop !)) (look ! 24 refl)) (and-then ! (load ! (from ! (fld ! refl (stop !))) (look-in ! 68 (sub ! 1 refl (whole !)))) (no-more !)))) (from ! (stop !)) (init ! 22 refl (tt, (tt, (record { fits = room₂ .0 }, tt)))) $
-        assigns ! (addr ! (from ! (fld ! refl (hop ! (look-in ! 66 (sub ! 0 refl (whole !))) (stop !))))) (from ! (stop !)) (init ! 20 refl (tt, tt)) $
-        assigns ! (agg ! (and-then ! (load ! (from ! (stop !)) (look ! 20 refl)) (and-then ! (load ! (from ! (fld ! refl (stop !))) (look-in ! 66 (sub ! 1 refl (whole !)))) (no-more !)))) (from ! (stop !)) (init ! 18 refl (tt, (tt, (record { fits = room₃ .0 }, tt)))) $
-        assigns ! (addr ! (from ! (fld ! refl (hop ! (look-in ! 62 (sub ! 0 refl (whole !))) (stop !))))) (from ! (stop !)) (init ! 16 refl (tt, tt)) $
-        assigns ! (agg ! (and-then ! (load ! (from ! (stop !)) (look ! 16 refl)) (and-then ! (load ! (from ! (fld ! refl (stop !))) (look-in ! 62 (sub ! 1 refl (whole !)))) (no-more !)))) (from ! (stop !)) (init ! 14 refl (tt, (tt, (record { fits = room₅ .0 }, tt)))) $
+        move ! (8 ∷ 9 ∷ []) $
+        use2 W (later (‵ (MutSlice (named 3) κ₃ u8 .own (x₄ γ₄ slab) (s₄ ∷ [])) ⊛ ‵ (flft κ₃ q₃))) (shared-back u8 κ₃ (ν₆ ∷ []) q₃ γ₄ b₄ o₄ 𝓤 H A W (named 3) (named 5) slab room₄) $ await ! tt $
+        split ! $
+        -- ---- run_batch(&mut head, &mut branches, rt, pt, nt, slab, input, answers)
+        assigns ! (addr ! (from ! (stop !))) (from ! (stop !)) (init ! 40 refl (tt, tt)) $
+        assigns ! (addr ! (from ! (stop !))) (from ! (stop !)) (init ! 38 refl (tt, tt)) $
+        assigns ! (agg ! (and-then ! (load ! (from ! (stop !)) (look ! 38 refl)) (and-then ! (lit ! tt) (no-more !)))) (from ! (stop !)) (init ! 36 refl (tt, (tt, (record { fits = lit< tt }, tt)))) $
+        assigns ! (addr ! (from ! (fld ! refl (hop ! (look-in ! 82 (sub ! 0 refl (whole !))) (stop !))))) (from ! (stop !)) (init ! 34 refl (tt, tt)) $
+        assigns ! (agg ! (and-then ! (load ! (from ! (stop !)) (look ! 34 refl)) (and-then ! (load ! (from ! (fld ! refl (stop !))) (look-in ! 82 (sub ! 1 refl (whole !)))) (no-more !)))) (from ! (stop !)) (init ! 32 refl (tt, (tt, (record { fits = room₁ .0 }, tt)))) $
+        assigns ! (addr ! (from ! (fld ! refl (hop ! (look-in ! 80 (sub ! 0 refl (whole !))) (stop !))))) (from ! (stop !)) (init ! 30 refl (tt, tt)) $
+        assigns ! (agg ! (and-then ! (load ! (from ! (stop !)) (look ! 30 refl)) (and-then ! (load ! (from ! (fld ! refl (stop !))) (look-in ! 80 (sub ! 1 refl (whole !)))) (no-more !)))) (from ! (stop !)) (init ! 28 refl (tt, (tt, (record { fits = room₂ .0 }, tt)))) $
+        assigns ! (addr ! (from ! (fld ! refl (hop ! (look-in ! 78 (sub ! 0 refl (whole !))) (stop !))))) (from ! (stop !)) (init ! 26 refl (tt, tt)) $
+        assigns ! (agg ! (and-then ! (load ! (from ! (stop !)) (look ! 26 refl)) (and-then ! (load ! (from ! (fld ! refl (stop !))) (look-in ! 78 (sub ! 1 refl (whole !)))) (no-more !)))) (from ! (stop !)) (init ! 24 refl (tt, (tt, (record { fits = room₃ .0 }, tt)))) $
+        assigns ! (addr ! (from ! (fld ! refl (hop ! (look-in ! 76 (sub ! 0 refl (whole !))) (stop !))))) (from ! (stop !)) (init ! 22 refl (tt, tt)) $
+        assigns ! (agg ! (and-then ! (load ! (from ! (stop !)) (look ! 22 refl)) (and-then ! (load ! (from ! (fld ! refl (stop !))) (look-in ! 76 (sub ! 1 refl (whole !)))) (no-more !)))) (from ! (stop !)) (init ! 20 refl (tt, (tt, (record { fits = room₄ .0 }, tt)))) $
+        assigns ! (addr ! (from ! (fld ! refl (hop ! (look-in ! 72 (sub ! 0 refl (whole !))) (stop !))))) (from ! (stop !)) (init ! 18 refl (tt, tt)) $
+        assigns ! (agg ! (and-then ! (load ! (from ! (stop !)) (look ! 18 refl)) (and-then ! (load ! (from ! (fld ! refl (stop !))) (look-in ! 72 (sub ! 1 refl (whole !)))) (no-more !)))) (from ! (stop !)) (init ! 16 refl (tt, (tt, (record { fits = room₆ .0 }, tt)))) $
         lft-new ! tt (λ μ₁.
         lft-new ! tt (λ μ₂.
-        move ! (9 ∷ []) $
-        use1 W (later (some (λ (δ : GName). ‵ (MutRef (named 0) (μ₁ ∷ []) R .own (x l₇ l₉ δ (zs .0)) (vptr l₇ 0 ∷ [])) ⊛ ‵ (flent (μ₁ ∷ []) (Body (mem R) l₇ 0 δ))))) (lends-ref 𝓤 H A W R (named 0) (μ₁ ∷ []) (zs .0) l₇ 0) $ await ! tt $
+        move ! (11 ∷ []) $
+        use1 W (later (some (λ (δ : GName). ‵ (MutRef (named 0) (μ₁ ∷ []) R .own (x l₈ l₁₀ δ (zs .0)) (vptr l₈ 0 ∷ [])) ⊛ ‵ (flent (μ₁ ∷ []) (Body (mem R) l₈ 0 δ))))) (lends-ref 𝓤 H A W R (named 0) (μ₁ ∷ []) (zs .0) l₈ 0) $ await ! tt $
         pick ! (λ ε₁.
         split ! $
-        move ! (10 ∷ []) $
-        use1 W (later (some (λ (δ : GName). ‵ (MutSlice (named 1) (μ₂ ∷ []) S .own (at-list l₉ δ (zs .1 .1 .0)) (sliceVal (l₉, 0) 16 ∷ [])) ⊛ ‵ (flent (μ₂ ∷ []) (Held S 16 l₉ 0 δ))))) (lends-local 𝓤 H A W S 16 l₉ (named 1) (μ₂ ∷ []) (zs .1 .1 .0) rows-room) $ await ! tt $
+        move ! (12 ∷ []) $
+        use1 W (later (some (λ (δ : GName). ‵ (MutSlice (named 1) (μ₂ ∷ []) S .own (at-list l₁₀ δ (zs .1 .1 .0)) (sliceVal (l₁₀, 0) 16 ∷ [])) ⊛ ‵ (flent (μ₂ ∷ []) (Held S 16 l₁₀ 0 δ))))) (lends-local 𝓤 H A W S 16 l₁₀ (named 1) (μ₂ ∷ []) (zs .1 .1 .0) rows-room) $ await ! tt $
         pick ! (λ ε₂.
         split ! $
-        move ! (15 ∷ []) $
-        use1 W (‵ (ShrSlice (named 3) κ₃ u8 .own (x₄ γ₄ input) (s₄ ∷ [])) ⊛ ‵ (ShrSlice (named 3) κ₃ u8 .own (x₄ γ₄ input) (s₄ ∷ []))) (shr-slice-copy 𝓤 H A W (named 3) κ₃ u8 .twice (x₄ γ₄ input) (s₄ ∷ [])) $
+        move ! (17 ∷ []) $
+        use1 W (‵ (ShrSlice (named 4) κ₄ u8 .own (x₅ γ₅ input) (s₅ ∷ [])) ⊛ ‵ (ShrSlice (named 4) κ₄ u8 .own (x₅ γ₅ input) (s₅ ∷ []))) (shr-slice-copy 𝓤 H A W (named 4) κ₄ u8 .twice (x₅ γ₅ input) (s₅ ∷ [])) $
         split ! $
         nothing ! $
-        move ! (15 ∷ 0 ∷ []) $
+        move ! (17 ∷ 0 ∷ []) $
         join ! $
-        move ! (15 ∷ 0 ∷ []) $
+        move ! (17 ∷ 0 ∷ []) $
         join ! $
         move ! (10 ∷ 0 ∷ []) $
         join ! $
@@ -439,14 +475,18 @@ module _ {M : Type 1} (𝓤 : URA M) (H : Heap 𝓤) (A : Atoms 𝓤) (W : Given
         join ! $
         move ! (12 ∷ 0 ∷ []) $
         join ! $
+        move ! (13 ∷ 0 ∷ []) $
+        join ! $
         move ! (7 ∷ 0 ∷ []) $
         join ! $
         move ! (7 ∷ 0 ∷ []) $
         join ! $
         nothing ! $
-        move ! (11 ∷ 0 ∷ []) $
+        move ! (12 ∷ 0 ∷ []) $
         fjoin ! $
         move ! (2 ∷ 0 ∷ []) $
+        fjoin ! $
+        move ! (7 ∷ 0 ∷ []) $
         fjoin ! $
         move ! (7 ∷ 0 ∷ []) $
         fjoin ! $
@@ -459,18 +499,18 @@ module _ {M : Type 1} (𝓤 : URA M) (H : Heap 𝓤) (A : Atoms 𝓤) (W : Given
         move ! (4 ∷ 0 ∷ []) $
         fjoin ! $
         move ! (1 ∷ 0 ∷ []) $
-        use2 W (raw (Rn 𝓤 H A at-mem run .pre (to-run l₇ l₉ (zs .0) (zs .1 .1 .0) (zs .1 .1 .1 .0) (zs .1 .1 .1 .1 .0) μ₁ μ₂ ε₁ ε₂))) (goes-run l₇ l₉ (zs .0) (zs .1 .1 .0) (zs .1 .1 .1 .0) (zs .1 .1 .1 .1 .0) μ₁ μ₂ ε₁ ε₂) $
-        -- context: [call; fin-input; lrows; lref; _32; _31; _30; _29; _28; _27; _26; _25; _24; _23; _22; _21; _20; _19; _18; _17; _16; _15; _14; _13; _12; _11; _10; _8; _6; _5; _4; _3; _2; _1; _0]
-        calls-at ! fm (Rn 𝓤 H A at-mem run) known-run (to-run l₇ l₉ (zs .0) (zs .1 .1 .0) (zs .1 .1 .1 .0) (zs .1 .1 .1 .1 .0) μ₁ μ₂ ε₁ ε₂) (and-then ! (load ! (from ! (stop !)) (look ! 26 refl)) (and-then ! (load ! (from ! (stop !)) (look ! 22 refl)) (and-then ! (load ! (from ! (stop !)) (look ! 18 refl)) (and-then ! (load ! (from ! (stop !)) (look ! 14 refl)) (and-then ! (load ! (from ! (stop !)) (look ! 10 refl)) (and-then ! (load ! (from ! (stop !)) (look ! 56 refl)) (and-then ! (load ! (from ! (stop !)) (look ! 6 refl)) (no-more !)))))))) (λ u.
-        use1 W (later (some (λ (r : Report). ((‵ (flft (μ₁ ∷ []) fullShare) ⊛ ‵ (flft (μ₂ ∷ []) fullShare) ⊛ ‵ (flft κ₀ q₀) ⊛ ‵ (flft κ₁ q₁) ⊛ ‵ (flft κ₂ q₂) ⊛ ‵ (flft κ₃ q₃) ⊛ ‵ (flft κ₄ q₄) ⊛ ‵ ftrue) ⊛ ‵ (Q.the-row .own r (u ∷ []))) ⊛ raw (ensured 𝓤 H A rn.ended (rn.clauses 𝓤 H A at-mem run) (μ₁ ∷ [], (μ₂ ∷ [], (κ₀, (κ₁, (κ₂, (κ₃, (κ₄, tt))))))) (x l₇ l₉ ε₁ (zs .0), (at-list l₉ ε₂ (zs .1 .1 .0), ((x₁ γ₁ (zs .1 .1 .1 .0)), ((x₂ γ₂ (zs .1 .1 .1 .1 .0)), ((x₃ γ₃ slab), ((x₄ γ₄ input), ((x₅ γ₅ answers), tt))))))) tt r)))) (id⊢ 𝓤 _) $ await ! tt $
+        use2 W (raw (Rn 𝓤 H A at-mem run .pre (to-run l₈ l₁₀ (zs .0) (zs .1 .1 .0) (zs .1 .1 .1 .0) (zs .1 .1 .1 .1 .0) (zs .1 .1 .1 .1 .1 .0) μ₁ μ₂ ε₁ ε₂))) (goes-run l₈ l₁₀ (zs .0) (zs .1 .1 .0) (zs .1 .1 .1 .0) (zs .1 .1 .1 .1 .0) (zs .1 .1 .1 .1 .1 .0) μ₁ μ₂ ε₁ ε₂) $
+        -- context: [call; fin-input; lrows; lref; _37; _36; _35; _34; _33; _32; _31; _30; _29; _28; _27; _26; _25; _24; _23; _22; _21; _20; _19; _18; _17; _16; _15; _14; _13; _12; _11; _9; _7; _6; _5; _4; _3; _2; _1; _0]
+        calls-at ! fm (Rn 𝓤 H A at-mem run) known-run (to-run l₈ l₁₀ (zs .0) (zs .1 .1 .0) (zs .1 .1 .1 .0) (zs .1 .1 .1 .1 .0) (zs .1 .1 .1 .1 .1 .0) μ₁ μ₂ ε₁ ε₂) (and-then ! (load ! (from ! (stop !)) (look ! 30 refl)) (and-then ! (load ! (from ! (stop !)) (look ! 26 refl)) (and-then ! (load ! (from ! (stop !)) (look ! 22 refl)) (and-then ! (load ! (from ! (stop !)) (look ! 18 refl)) (and-then ! (load ! (from ! (stop !)) (look ! 14 refl)) (and-then ! (load ! (from ! (stop !)) (look ! 10 refl)) (and-then ! (load ! (from ! (stop !)) (look ! 64 refl)) (and-then ! (load ! (from ! (stop !)) (look ! 6 refl)) (no-more !))))))))) (λ u.
+        use1 W (later (some (λ (r : Report). ((‵ (flft (μ₁ ∷ []) fullShare) ⊛ ‵ (flft (μ₂ ∷ []) fullShare) ⊛ ‵ (flft κ₀ q₀) ⊛ ‵ (flft κ₁ q₁) ⊛ ‵ (flft κ₂ q₂) ⊛ ‵ (flft κ₃ q₃) ⊛ ‵ (flft κ₄ q₄) ⊛ ‵ (flft κ₅ q₅) ⊛ ‵ ftrue) ⊛ ‵ (Q.the-row .own r (u ∷ []))) ⊛ raw (ensured 𝓤 H A rn.ended (rn.clauses 𝓤 H A at-mem run) (μ₁ ∷ [], (μ₂ ∷ [], (κ₀, (κ₁, (κ₂, (κ₃, (κ₄, (κ₅, tt)))))))) (x l₈ l₁₀ ε₁ (zs .0), (at-list l₁₀ ε₂ (zs .1 .1 .0), ((x₁ γ₁ (zs .1 .1 .1 .0)), ((x₂ γ₂ (zs .1 .1 .1 .1 .0)), ((x₃ γ₃ (zs .1 .1 .1 .1 .1 .0)), ((x₄ γ₄ slab), ((x₅ γ₅ input), ((x₆ γ₆ answers), tt)))))))) tt r)))) (id⊢ 𝓤 _) $ await ! tt $
         pick ! (λ r.
         split ! $
         move ! (1 ∷ []) $
-        use1 W (some (λ (ys : Head × (List Branch × (List ℕ × (List ℕ × (List ℕ × (Unit {0} × (List ℕ × Unit {0}))))))). ‵ (lasts rn.ended (μ₁ ∷ [], (μ₂ ∷ [], (κ₀, (κ₁, (κ₂, (κ₃, (κ₄, tt))))))) (x l₇ l₉ ε₁ (zs .0), (at-list l₉ ε₂ (zs .1 .1 .0), ((x₁ γ₁ (zs .1 .1 .1 .0)), ((x₂ γ₂ (zs .1 .1 .1 .1 .0)), ((x₃ γ₃ slab), ((x₄ γ₄ input), ((x₅ γ₅ answers), tt))))))) ys) ⊛ raw (fact 𝓤 (Ran (zs .0) (zs .1 .1 .0) (zs .1 .1 .1 .0) (zs .1 .1 .1 .1 .0) r (ys .0) (ys .1 .0) (ys .1 .1 .0) (ys .1 .1 .1 .0) (ys .1 .1 .1 .1 .0) (ys .1 .1 .1 .1 .1 .1 .0))))) (id⊢ 𝓤 _) $
+        use1 W (some (λ (ys : Head × (List Branch × (List ℕ × (List ℕ × (List ℕ × (List ℕ × (Unit {0} × (List ℕ × Unit {0})))))))). ‵ (lasts rn.ended (μ₁ ∷ [], (μ₂ ∷ [], (κ₀, (κ₁, (κ₂, (κ₃, (κ₄, (κ₅, tt)))))))) (x l₈ l₁₀ ε₁ (zs .0), (at-list l₁₀ ε₂ (zs .1 .1 .0), ((x₁ γ₁ (zs .1 .1 .1 .0)), ((x₂ γ₂ (zs .1 .1 .1 .1 .0)), ((x₃ γ₃ (zs .1 .1 .1 .1 .1 .0)), ((x₄ γ₄ slab), ((x₅ γ₅ input), ((x₆ γ₆ answers), tt)))))))) ys) ⊛ raw (fact 𝓤 (Ran (zs .0) (zs .1 .1 .0) (zs .1 .1 .1 .0) (zs .1 .1 .1 .1 .0) (zs .1 .1 .1 .1 .1 .0) r (ys .0) (ys .1 .0) (ys .1 .1 .0) (ys .1 .1 .1 .0) (ys .1 .1 .1 .1 .0) (ys .1 .1 .1 .1 .1 .0) (ys .1 .1 .1 .1 .1 .1 .1 .0))))) (id⊢ 𝓤 _) $
         pick ! (λ ys.
         split ! $
         move ! (1 ∷ []) $
-        heard ! (Ran (zs .0) (zs .1 .1 .0) (zs .1 .1 .1 .0) (zs .1 .1 .1 .1 .0) r (ys .0) (ys .1 .0) (ys .1 .1 .0) (ys .1 .1 .1 .0) (ys .1 .1 .1 .1 .0) (ys .1 .1 .1 .1 .1 .1 .0)) (λ ran.
+        heard ! (Ran (zs .0) (zs .1 .1 .0) (zs .1 .1 .1 .0) (zs .1 .1 .1 .1 .0) (zs .1 .1 .1 .1 .1 .0) r (ys .0) (ys .1 .0) (ys .1 .1 .0) (ys .1 .1 .1 .0) (ys .1 .1 .1 .1 .0) (ys .1 .1 .1 .1 .1 .0) (ys .1 .1 .1 .1 .1 .1 .1 .0)) (λ ran.
         fsplit ! $
         move ! (1 ∷ []) $
         fsplit ! $
@@ -491,6 +531,11 @@ module _ {M : Type 1} (𝓤 : URA M) (H : Heap 𝓤) (A : Atoms 𝓤) (W : Given
         fsplit ! $
         fsplit ! $
         move ! (1 ∷ []) $
+        feqL ! (λ same-nt₂.
+        move ! (1 ∷ []) $
+        fsplit ! $
+        fsplit ! $
+        move ! (1 ∷ []) $
         feqL ! (λ same-slab₂.
         move ! (1 ∷ []) $
         fsplit ! $
@@ -501,147 +546,162 @@ module _ {M : Type 1} (𝓤 : URA M) (H : Heap 𝓤) (A : Atoms 𝓤) (W : Given
         feqL ! (λ same-answers₂.
         move ! (1 ∷ []) $
         drop ! $
-        move ! (6 ∷ []) $
+        move ! (7 ∷ []) $
         split ! $
         move ! (1 ∷ []) $
         peeks ! Q.the-row (Is Q.the-row) (shows 𝓤 H A Q.the-row) r (u ∷ []) (λ is.
         drop ! $
-        land ! (from ! (stop !)) (init ! 54 refl (LL.lawful Q.the-type Q′.the-laws 𝓤 H A W .typed r _ is .0)) $
-        rewrite ! 54 (λ (v : Val). ‵ (fat fullShare Q′.mir l₁₀ 0 v)) (ap only (LL.tells Q.the-type Q′.the-laws r _ is)) refl $
+        land ! (from ! (stop !)) (init ! 63 refl (LL.lawful Q.the-type Q′.the-laws 𝓤 H A W .typed r _ is .0)) $
+        rewrite ! 63 (λ (v : Val). ‵ (fat fullShare Q′.mir l₁₁ 0 v)) (ap only (LL.tells Q.the-type Q′.the-laws r _ is)) refl $
         split ! $
         lft-end ! tt $
         move ! (1 ∷ []) $
         split ! $
         lft-end ! tt $
         move ! (1 ∷ []) $
-        move ! (2 ∷ 11 ∷ 8 ∷ []) $
-        use3 W (later (‵ (mem R .lies (ys .0) l₇ 0))) (ref-back 𝓤 H A W R (μ₁ ∷ []) ε₁ (ys .0) l₇ 0) $ await ! tt $
-        move ! (2 ∷ 9 ∷ 7 ∷ []) $
-        use3 W (later (‵ (here S 16 l₉ (ys .1 .0)))) (local-back 𝓤 H A W S 16 l₉ (μ₂ ∷ []) ε₂ (ys .1 .0)) $ await ! tt $
+        move ! (2 ∷ 12 ∷ 9 ∷ []) $
+        use3 W (later (‵ (mem R .lies (ys .0) l₈ 0))) (ref-back 𝓤 H A W R (μ₁ ∷ []) ε₁ (ys .0) l₈ 0) $ await ! tt $
+        move ! (2 ∷ 10 ∷ 8 ∷ []) $
+        use3 W (later (‵ (here S 16 l₁₀ (ys .1 .0)))) (local-back 𝓤 H A W S 16 l₁₀ (μ₂ ∷ []) ε₂ (ys .1 .0)) $ await ! tt $
         -- ---- the head is read out of its local, and the locals are freed
         move ! (1 ∷ []) $
-        use1 W (‵ (fat fullShare T′.mir l₇ 0 (T′.lowered (ys .0))) ⊛ ‵ (R .own (ys .0) (T′.lowered (ys .0) ∷ []))) (lies-out 𝓤 H A W l₇ (ys .0)) $
+        use1 W (‵ (fat fullShare T′.mir l₈ 0 (T′.lowered (ys .0))) ⊛ ‵ (R .own (ys .0) (T′.lowered (ys .0) ∷ []))) (lies-out 𝓤 H A W l₈ (ys .0)) $
         split ! $
         move ! (1 ∷ []) $
         peeks ! R (Is R) (shows 𝓤 H A R) (ys .0) (T′.lowered (ys .0) ∷ []) (λ now-is.
         drop ! $
-        assigns ! (of-opd ! (load ! (from ! (stop !)) (look ! 0 refl))) (from ! (stop !)) (init ! 8 refl (LL.lawful T.the-type T′.the-laws 𝓤 H A W .typed (ys .0) _ now-is .0)) $
-        assigns ! (agg ! (and-then ! (load ! (from ! (stop !)) (look ! 8 refl)) (and-then ! (load ! (from ! (stop !)) (look ! 52 refl)) (no-more !)))) (from ! (stop !)) (init ! 70 refl (LL.lawful O.the-type O′.the-laws 𝓤 H A W .typed (out (ys .0) r) _ (out-is (ys .0) r now-is (q-is r is)) .0)) $
+        assigns ! (of-opd ! (load ! (from ! (stop !)) (look ! 0 refl))) (from ! (stop !)) (init ! 9 refl (LL.lawful T.the-type T′.the-laws 𝓤 H A W .typed (ys .0) _ now-is .0)) $
+        assigns ! (agg ! (and-then ! (load ! (from ! (stop !)) (look ! 9 refl)) (and-then ! (load ! (from ! (stop !)) (look ! 61 refl)) (no-more !)))) (from ! (stop !)) (init ! 81 refl (LL.lawful O.the-type O′.the-laws 𝓤 H A W .typed (out (ys .0) r) _ (out-is (ys .0) r now-is (q-is r is)) .0)) $
         move ! (1 ∷ []) $
-        use1 W (‵ (froom (tyArray (lone (S .mir)) 16) l₉ 0)) (array-out 𝓤 H A W S 16 l₉ (LL.vals B.the-type B′.the-laws) (LL.tells B.the-type B′.the-laws) (ys .1 .0)) $
-        returns ! (look ! 70 refl) $
-        forget ! 70 refl $
-        forget ! 68 refl $
-        forget ! 66 refl $
-        forget ! 64 refl $
-        forget ! 62 refl $
-        forget ! 60 refl $
-        forget ! 58 refl $
+        use1 W (‵ (froom (tyArray (lone (S .mir)) 16) l₁₀ 0)) (array-out 𝓤 H A W S 16 l₁₀ (LL.vals B.the-type B′.the-laws) (LL.tells B.the-type B′.the-laws) (ys .1 .0)) $
+        returns ! (look ! 81 refl) $
+        forget ! 81 refl $
+        forget ! 79 refl $
+        forget ! 77 refl $
+        forget ! 75 refl $
+        forget ! 73 refl $
+        forget ! 71 refl $
+        forget ! 69 refl $
+        forget ! 67 refl $
         forget ! 1 refl $
+        forget ! 64 refl $
+        forget ! 61 refl $
+        forget ! 59 refl $
+        forget ! 57 refl $
         forget ! 55 refl $
-        forget ! 52 refl $
-        forget ! 50 refl $
-        forget ! 48 refl $
-        forget ! 46 refl $
-        forget ! 44 refl $
-        forget ! 42 refl $
-        forget ! 40 refl $
-        forget ! 38 refl $
-        forget ! 36 refl $
-        forget ! 34 refl $
-        forget ! 32 refl $
-        forget ! 30 refl $
-        forget ! 28 refl $
-        forget ! 26 refl $
-        forget ! 24 refl $
-        forget ! 22 refl $
-        forget ! 20 refl $
-        forget ! 18 refl $
-        forget ! 16 refl $
-        forget ! 14 refl $
-        forget ! 12 refl $
-        forget ! 10 refl $
-        forget ! 8 refl $
-        move ! (70 ∷ 71 ∷ []) $
+        forget ! 53 refl $
+        forget ! 51 refl $
+        forget ! 49 refl $
+        forget ! 47 refl $
+        forget ! 45 refl $
+        forget ! 43 refl $
+        forget ! 41 refl $
+        forget ! 39 refl $
+        forget ! 37 refl $
+        forget ! 35 refl $
+        forget ! 33 refl $
+        forget ! 31 refl $
+        forget ! 29 refl $
+        forget ! 27 refl $
+        forget ! 25 refl $
+        forget ! 23 refl $
+        forget ! 21 refl $
+        forget ! 19 refl $
+        forget ! 17 refl $
+        forget ! 15 refl $
+        forget ! 13 refl $
+        forget ! 11 refl $
+        forget ! 9 refl $
+        move ! (81 ∷ 82 ∷ []) $
         free1 ! $
-        move ! (68 ∷ 69 ∷ []) $
+        move ! (79 ∷ 80 ∷ []) $
         free1 ! $
-        move ! (66 ∷ 67 ∷ []) $
+        move ! (77 ∷ 78 ∷ []) $
         free1 ! $
-        move ! (64 ∷ 65 ∷ []) $
+        move ! (75 ∷ 76 ∷ []) $
         free1 ! $
-        move ! (62 ∷ 63 ∷ []) $
+        move ! (73 ∷ 74 ∷ []) $
         free1 ! $
-        move ! (60 ∷ 61 ∷ []) $
+        move ! (71 ∷ 72 ∷ []) $
         free1 ! $
-        move ! (58 ∷ 59 ∷ []) $
+        move ! (69 ∷ 70 ∷ []) $
         free1 ! $
-        move ! (1 ∷ 57 ∷ []) $
+        move ! (67 ∷ 68 ∷ []) $
         free1 ! $
-        move ! (54 ∷ 55 ∷ []) $
+        move ! (1 ∷ 66 ∷ []) $
         free1 ! $
-        move ! (0 ∷ 53 ∷ []) $
+        move ! (63 ∷ 64 ∷ []) $
         free1 ! $
-        move ! (50 ∷ 51 ∷ []) $
+        move ! (0 ∷ 62 ∷ []) $
         free1 ! $
-        move ! (48 ∷ 49 ∷ []) $
+        move ! (59 ∷ 60 ∷ []) $
         free1 ! $
-        move ! (46 ∷ 47 ∷ []) $
+        move ! (57 ∷ 58 ∷ []) $
         free1 ! $
-        move ! (44 ∷ 45 ∷ []) $
+        move ! (55 ∷ 56 ∷ []) $
         free1 ! $
-        move ! (42 ∷ 43 ∷ []) $
+        move ! (53 ∷ 54 ∷ []) $
         free1 ! $
-        move ! (40 ∷ 41 ∷ []) $
+        move ! (51 ∷ 52 ∷ []) $
         free1 ! $
-        move ! (38 ∷ 39 ∷ []) $
+        move ! (49 ∷ 50 ∷ []) $
         free1 ! $
-        move ! (36 ∷ 37 ∷ []) $
+        move ! (47 ∷ 48 ∷ []) $
         free1 ! $
-        move ! (34 ∷ 35 ∷ []) $
+        move ! (45 ∷ 46 ∷ []) $
         free1 ! $
-        move ! (32 ∷ 33 ∷ []) $
+        move ! (43 ∷ 44 ∷ []) $
         free1 ! $
-        move ! (30 ∷ 31 ∷ []) $
+        move ! (41 ∷ 42 ∷ []) $
         free1 ! $
-        move ! (28 ∷ 29 ∷ []) $
+        move ! (39 ∷ 40 ∷ []) $
         free1 ! $
-        move ! (26 ∷ 27 ∷ []) $
+        move ! (37 ∷ 38 ∷ []) $
         free1 ! $
-        move ! (24 ∷ 25 ∷ []) $
+        move ! (35 ∷ 36 ∷ []) $
         free1 ! $
-        move ! (22 ∷ 23 ∷ []) $
+        move ! (33 ∷ 34 ∷ []) $
         free1 ! $
-        move ! (20 ∷ 21 ∷ []) $
+        move ! (31 ∷ 32 ∷ []) $
         free1 ! $
-        move ! (18 ∷ 19 ∷ []) $
+        move ! (29 ∷ 30 ∷ []) $
         free1 ! $
-        move ! (16 ∷ 17 ∷ []) $
+        move ! (27 ∷ 28 ∷ []) $
         free1 ! $
-        move ! (14 ∷ 15 ∷ []) $
+        move ! (25 ∷ 26 ∷ []) $
         free1 ! $
-        move ! (12 ∷ 13 ∷ []) $
+        move ! (23 ∷ 24 ∷ []) $
         free1 ! $
-        move ! (10 ∷ 11 ∷ []) $
+        move ! (21 ∷ 22 ∷ []) $
         free1 ! $
-        move ! (8 ∷ 9 ∷ []) $
+        move ! (19 ∷ 20 ∷ []) $
         free1 ! $
-        move ! (6 ∷ 7 ∷ []) $
+        move ! (17 ∷ 18 ∷ []) $
+        free1 ! $
+        move ! (15 ∷ 16 ∷ []) $
+        free1 ! $
+        move ! (13 ∷ 14 ∷ []) $
+        free1 ! $
+        move ! (11 ∷ 12 ∷ []) $
+        free1 ! $
+        move ! (9 ∷ 10 ∷ []) $
+        free1 ! $
+        move ! (7 ∷ 8 ∷ []) $
         free1 ! $
         free0 ! $
-        keep ! (0 ∷ 4 ∷ 3 ∷ 2 ∷ 5 ∷ 1 ∷ []) $
-        by ! (exits (ys .0) r (ys .1 .1 .0) (ys .1 .1 .1 .0) (ys .1 .1 .1 .1 .0) (ys .1 .1 .1 .1 .1 .1 .0) (then-batch size (zeroRows rt pt slab) r₁ (zs .0) (lent (zs .1 .1 .0) (zs .1 .1 .1 .0) (zs .1 .1 .1 .1 .0) slab) same-rt₁ made input answers r (ys .0) (lent (ys .1 .0) (ys .1 .1 .0) (ys .1 .1 .1 .0) (ys .1 .1 .1 .1 .0)) (ys .1 .1 .1 .1 .1 .1 .0) ran) (same-rt₂ ∙ same-rt₁) (same-pt₂ ∙ same-pt₁) same-slab₂ same-answers₂ (out-is (ys .0) r now-is (q-is r is)))))))))))))))))))))))))))))))))))))))))))))))))))))))))))))))))))))
+        keep ! (0 ∷ 5 ∷ 4 ∷ 3 ∷ 2 ∷ 6 ∷ 1 ∷ []) $
+        by ! (exits (ys .0) r (ys .1 .1 .0) (ys .1 .1 .1 .0) (ys .1 .1 .1 .1 .0) (ys .1 .1 .1 .1 .1 .0) (ys .1 .1 .1 .1 .1 .1 .1 .0) (then-batch size (zeroRows rt pt nt slab) r₁ (zs .0) (lent (zs .1 .1 .0) (zs .1 .1 .1 .0) (zs .1 .1 .1 .1 .0) (zs .1 .1 .1 .1 .1 .0) slab) same-rt₁ same-nt₁ made input answers r (ys .0) (lent (ys .1 .0) (ys .1 .1 .0) (ys .1 .1 .1 .0) (ys .1 .1 .1 .1 .0) (ys .1 .1 .1 .1 .1 .0)) (ys .1 .1 .1 .1 .1 .1 .1 .0) ran) (same-rt₂ ∙ same-rt₁) (same-pt₂ ∙ same-pt₁) (same-nt₂ ∙ same-nt₁) same-slab₂ same-answers₂ (out-is (ys .0) r now-is (q-is r is))))))))))))))))))))))))))))))))))))))))))))))))))))))))))))))))))))))))))))))
 
 module _ {M : Type 1} (𝓤 : URA M) (H : Heap 𝓤) (A : Atoms 𝓤) (W : Given 𝓤 H A) (at-mem : Memory → SProp 𝓤) (run : Routine → Fun 𝓤) (𝓣 : Tables 𝓤 H) (known-make : Triple 𝓤 (𝓣 .C #lent·make-fresh) (Mk 𝓤 H A at-mem run)) (known-run : Triple 𝓤 (𝓣 .C #lent·run-batch) (Rn 𝓤 H A at-mem run)) where
   f-walks : Walks 𝓤 H A f.ended stayed (WpFn 𝓤 H (𝓣 .C) (𝓣 .Λ) code.function) (f.clauses 𝓤 H A at-mem run)
-  f-walks = walked 𝓤 H A f.ended stayed (f.clauses 𝓤 H A at-mem run) (WpFn 𝓤 H (𝓣 .C) (𝓣 .Λ) code.function) (λ κs. (uint-vals w32, (slice-vals, (slice-vals, (slice-vals, (slice-vals, (slice-vals, tt)))))))
-      (λ κs. (uint-tells w32, (mut-slice-tells (named 0) (κs .0) u32, (mut-slice-tells (named 1) (κs .1 .0) u32, (mut-slice-tells (named 2) (κs .1 .1 .0) u8, (shr-slice-tells (named 3) (κs .1 .1 .1 .0) u8, (mut-slice-tells (named 4) (κs .1 .1 .1 .1 .0) u8, tt)))))))
+  f-walks = walked 𝓤 H A f.ended stayed (f.clauses 𝓤 H A at-mem run) (WpFn 𝓤 H (𝓣 .C) (𝓣 .Λ) code.function) (λ κs. (uint-vals w32, (slice-vals, (slice-vals, (slice-vals, (slice-vals, (slice-vals, (slice-vals, tt))))))))
+      (λ κs. (uint-tells w32, (mut-slice-tells (named 0) (κs .0) u32, (mut-slice-tells (named 1) (κs .1 .0) u32, (mut-slice-tells (named 2) (κs .1 .1 .0) u32, (mut-slice-tells (named 3) (κs .1 .1 .1 .0) u8, (shr-slice-tells (named 4) (κs .1 .1 .1 .1 .0) u8, (mut-slice-tells (named 5) (κs .1 .1 .1 .1 .1 .0) u8, tt))))))))
       (λ κs qs bounds a g are. via 𝓤 _ (fst∗ 𝓤 _ (emp 𝓤))
-      (walk 𝓤 H A W at-mem run (κs .0) (κs .1 .0) (κs .1 .1 .0) (κs .1 .1 .1 .0) (κs .1 .1 .1 .1 .0) (qs .0) (qs .1 .0) (qs .1 .1 .0) (qs .1 .1 .1 .0) (qs .1 .1 .1 .1 .0) (a .0) (a .1 .0 .ptr .0) (a .1 .0 .ptr .1) (a .1 .0 .name) (a .1 .0 .now) (a .1 .1 .0 .ptr .0) (a .1 .1 .0 .ptr .1) (a .1 .1 .0 .name) (a .1 .1 .0 .now) (a .1 .1 .1 .0 .ptr .0) (a .1 .1 .1 .0 .ptr .1) (a .1 .1 .1 .0 .name) (a .1 .1 .1 .0 .now) (a .1 .1 .1 .1 .0 .ptr .0) (a .1 .1 .1 .1 .0 .ptr .1) (a .1 .1 .1 .1 .0 .name) (a .1 .1 .1 .1 .0 .now) (a .1 .1 .1 .1 .1 .0 .ptr .0) (a .1 .1 .1 .1 .1 .0 .ptr .1) (a .1 .1 .1 .1 .1 .0 .name) (a .1 .1 .1 .1 .1 .0 .now) (are .0 .1) (are .1 .0 .0 .1) (are .1 .1 .0 .0 .1) (are .1 .1 .1 .0 .0 .1) (are .1 .1 .1 .1 .0 .0 .1) (are .1 .1 .1 .1 .1 .0 .0 .1) (𝓣 .C) (𝓣 .Λ) (fmOf 𝓤 H (W .laws) 𝓣) known-make known-run))
+      (walk 𝓤 H A W at-mem run (κs .0) (κs .1 .0) (κs .1 .1 .0) (κs .1 .1 .1 .0) (κs .1 .1 .1 .1 .0) (κs .1 .1 .1 .1 .1 .0) (qs .0) (qs .1 .0) (qs .1 .1 .0) (qs .1 .1 .1 .0) (qs .1 .1 .1 .1 .0) (qs .1 .1 .1 .1 .1 .0) (a .0) (a .1 .0 .ptr .0) (a .1 .0 .ptr .1) (a .1 .0 .name) (a .1 .0 .now) (a .1 .1 .0 .ptr .0) (a .1 .1 .0 .ptr .1) (a .1 .1 .0 .name) (a .1 .1 .0 .now) (a .1 .1 .1 .0 .ptr .0) (a .1 .1 .1 .0 .ptr .1) (a .1 .1 .1 .0 .name) (a .1 .1 .1 .0 .now) (a .1 .1 .1 .1 .0 .ptr .0) (a .1 .1 .1 .1 .0 .ptr .1) (a .1 .1 .1 .1 .0 .name) (a .1 .1 .1 .1 .0 .now) (a .1 .1 .1 .1 .1 .0 .ptr .0) (a .1 .1 .1 .1 .1 .0 .ptr .1) (a .1 .1 .1 .1 .1 .0 .name) (a .1 .1 .1 .1 .1 .0 .now) (a .1 .1 .1 .1 .1 .1 .0 .ptr .0) (a .1 .1 .1 .1 .1 .1 .0 .ptr .1) (a .1 .1 .1 .1 .1 .1 .0 .name) (a .1 .1 .1 .1 .1 .1 .0 .now) (are .0 .1) (are .1 .0 .0 .1) (are .1 .1 .0 .0 .1) (are .1 .1 .1 .0 .0 .1) (are .1 .1 .1 .1 .0 .0 .1) (are .1 .1 .1 .1 .1 .0 .0 .1) (are .1 .1 .1 .1 .1 .1 .0 .0 .1) (𝓣 .C) (𝓣 .Λ) (fmOf 𝓤 H (W .laws) 𝓣) known-make known-run))
 
   f-meets : Meets 𝓤 H A f.signature (WpFn 𝓤 H (𝓣 .C) (𝓣 .Λ) code.function) (f.spec 𝓤 H A at-mem run)
   f-meets =
-      walk-meets 𝓤 H A f.ended stayed W (goes-none 𝓤 H A W 5 (λ _. u32) yes (λ κs x f. refl), (goes-gave-slice 𝓤 H A W 5 0 tt (plain (λ _. u32)), (goes-gave-slice 𝓤 H A W 5 1 tt (plain (λ _. u32)), (goes-gave-slice 𝓤 H A W 5 2 tt (plain (λ _. u8)), (goes-none-slice 𝓤 H A W 5 (3 ∷ []) tt (plain (λ _. u8)) yes, (goes-gave-slice 𝓤 H A W 5 4 tt (plain (λ _. u8)), tt)))))) (f.clauses 𝓤 H A at-mem run)
+      walk-meets 𝓤 H A f.ended stayed W (goes-none 𝓤 H A W 6 (λ _. u32) yes (λ κs x f. refl), (goes-gave-slice 𝓤 H A W 6 0 tt (plain (λ _. u32)), (goes-gave-slice 𝓤 H A W 6 1 tt (plain (λ _. u32)), (goes-gave-slice 𝓤 H A W 6 2 tt (plain (λ _. u32)), (goes-gave-slice 𝓤 H A W 6 3 tt (plain (λ _. u8)), (goes-none-slice 𝓤 H A W 6 (4 ∷ []) tt (plain (λ _. u8)) yes, (goes-gave-slice 𝓤 H A W 6 5 tt (plain (λ _. u8)), tt))))))) (f.clauses 𝓤 H A at-mem run)
       (WpFn 𝓤 H (𝓣 .C) (𝓣 .Λ) code.function) (WpFn-mono 𝓤 H (W .laws) 𝓣 code.function) f-walks
 
 pub fresh-batch-spec : {M : Type 1} → stated.statement M

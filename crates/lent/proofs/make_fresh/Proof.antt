@@ -84,14 +84,14 @@ use Rattle.lent.proofs.make_fresh.Code as code
 
 -- the head is still owned at exit; the rows and the other `&mut` slices were passed on for good
 abbrev stayed : Stays (f.ended .signature .params) (f.ended .kept)
-stayed = (stay-ref (0 ∷ []) tt (plain (λ _. T.the-row)), (stay-none (λ _. u32) yes, (gave-slice (1 ∷ []) tt (plain (λ _. B.the-row)), (gave-slice (2 ∷ []) tt (plain (λ _. u32)), (gave-slice (3 ∷ []) tt (plain (λ _. u32)), (stay-none-slice (4 ∷ []) tt (plain (λ _. u8)) yes, tt))))))
+stayed = (stay-ref (0 ∷ []) tt (plain (λ _. T.the-row)), (stay-none (λ _. u32) yes, (gave-slice (1 ∷ []) tt (plain (λ _. B.the-row)), (gave-slice (2 ∷ []) tt (plain (λ _. u32)), (gave-slice (3 ∷ []) tt (plain (λ _. u32)), (gave-slice (4 ∷ []) tt (plain (λ _. u32)), (stay-none-slice (5 ∷ []) tt (plain (λ _. u8)) yes, tt)))))))
 
 -- the contract of the core that the proof cites
 abbrev Co : {M : Type 1} (𝓤 : URA M) (H : Heap 𝓤) (A : Atoms 𝓤) (at-mem : Memory → SProp 𝓤) (run : Routine → Fun 𝓤) → Contract 𝓤
 Co 𝓤 H A at-mem run = tripleOf 𝓤 H A co.signature (co.spec 𝓤 H A at-mem run)
 
-module _ {M : Type 1} (𝓤 : URA M) (H : Heap 𝓤) (A : Atoms 𝓤) (W : Given 𝓤 H A) (at-mem : Memory → SProp 𝓤) (run : Routine → Fun 𝓤) (κ₀ κ₁ κ₂ κ₃ κ₄ : Lft) (q₀ q₁ q₂ q₃ q₄ : Share) (b₀ o₀ : ℕ) (γ₀ : GName) (h : Head) (size : ℕ) (b₂ o₂ : ℕ) (γ₂ : GName) (ys : List Branch) (b₃ o₃ : ℕ) (γ₃ : GName) (rt : List ℕ) (b₄ o₄ : ℕ) (γ₄ : GName) (pt : List ℕ) (b₅ o₅ : ℕ) (γ₅ : GName) (slab : List ℕ)
-    (fits₁ : size < 2 ^ 32) (room₂ : Room B.the-row (length ys)) (room₃ : Room u32 (length rt)) (room₄ : Room u32 (length pt)) (room₅ : Room u8 (length slab)) where
+module _ {M : Type 1} (𝓤 : URA M) (H : Heap 𝓤) (A : Atoms 𝓤) (W : Given 𝓤 H A) (at-mem : Memory → SProp 𝓤) (run : Routine → Fun 𝓤) (κ₀ κ₁ κ₂ κ₃ κ₄ κ₅ : Lft) (q₀ q₁ q₂ q₃ q₄ q₅ : Share) (b₀ o₀ : ℕ) (γ₀ : GName) (h : Head) (size : ℕ) (b₂ o₂ : ℕ) (γ₂ : GName) (ys : List Branch) (b₃ o₃ : ℕ) (γ₃ : GName) (rt : List ℕ) (b₄ o₄ : ℕ) (γ₄ : GName) (pt : List ℕ) (b₅ o₅ : ℕ) (γ₅ : GName) (nt : List ℕ) (b₆ o₆ : ℕ) (γ₆ : GName) (slab : List ℕ)
+    (fits₁ : size < 2 ^ 32) (room₂ : Room B.the-row (length ys)) (room₃ : Room u32 (length rt)) (room₄ : Room u32 (length pt)) (room₅ : Room u32 (length nt)) (room₆ : Room u8 (length slab)) where
   abbrev R : RattleType
   R = T.the-row
 
@@ -121,32 +121,38 @@ module _ {M : Type 1} (𝓤 : URA M) (H : Heap 𝓤) (A : Atoms 𝓤) (W : Given
   s₄ = sliceVal (b₄, o₄) (length pt)
 
   abbrev x₅ : RefT (List ℕ)
-  x₅ = record { ptr = (b₅, o₅); name = γ₅; now = slab }
+  x₅ = record { ptr = (b₅, o₅); name = γ₅; now = nt }
 
   abbrev s₅ : Val
-  s₅ = sliceVal (b₅, o₅) (length slab)
+  s₅ = sliceVal (b₅, o₅) (length nt)
+
+  abbrev x₆ : RefT (List ℕ)
+  x₆ = record { ptr = (b₆, o₆); name = γ₆; now = slab }
+
+  abbrev s₆ : Val
+  s₆ = sliceVal (b₆, o₆) (length slab)
 
   abbrev Arg : Type 0
-  Arg = RefT Head × (ℕ × (RefT (List Branch) × (RefT (List ℕ) × (RefT (List ℕ) × (RefT (List ℕ) × Unit {0})))))
+  Arg = RefT Head × (ℕ × (RefT (List Branch) × (RefT (List ℕ) × (RefT (List ℕ) × (RefT (List ℕ) × (RefT (List ℕ) × Unit {0}))))))
 
   abbrev a : Arg
-  a = (x₀, (size, (x₂, (x₃, (x₄, (x₅, tt))))))
+  a = (x₀, (size, (x₂, (x₃, (x₄, (x₅, (x₆, tt)))))))
 
-  abbrev at : Vals f.signature (κ₀, (κ₁, (κ₂, (κ₃, (κ₄, tt)))))
-  at = (vptr b₀ o₀ ∷ [], (vint w32 size ∷ [], (s₂ ∷ [], (s₃ ∷ [], (s₄ ∷ [], (s₅ ∷ [], tt))))))
+  abbrev at : Vals f.signature (κ₀, (κ₁, (κ₂, (κ₃, (κ₄, (κ₅, tt))))))
+  at = (vptr b₀ o₀ ∷ [], (vint w32 size ∷ [], (s₂ ∷ [], (s₃ ∷ [], (s₄ ∷ [], (s₅ ∷ [], (s₆ ∷ [], tt)))))))
 
   abbrev Post : Val → SProp 𝓤
-  Post = walkOf 𝓤 H A f.ended stayed (f.clauses 𝓤 H A at-mem run) .post (((κ₀, (κ₁, (κ₂, (κ₃, (κ₄, tt))))), (q₀, (q₁, (q₂, (q₃, (q₄, tt))))), tt, a, at), tt)
+  Post = walkOf 𝓤 H A f.ended stayed (f.clauses 𝓤 H A at-mem run) .post (((κ₀, (κ₁, (κ₂, (κ₃, (κ₄, (κ₅, tt)))))), (q₀, (q₁, (q₂, (q₃, (q₄, (q₅, tt)))))), tt, a, at), tt)
 
   -- what the contract says of the result and of the last values
-  abbrev Said : ℕ → Head → List Branch → List ℕ → List ℕ → Type 0
-  Said r h′ zr z-rt z-pt = FreshLeaves h (lent ys rt pt slab) size r h′ (lent zr z-rt z-pt slab)
+  abbrev Said : ℕ → Head → List Branch → List ℕ → List ℕ → List ℕ → Type 0
+  Said r h′ zr z-rt z-pt z-nt = FreshLeaves h (lent ys rt pt nt slab) size r h′ (lent zr z-rt z-pt z-nt slab)
 
-  exits : (r : ℕ) (h′ : Head) (zr : List Branch) (z-rt : List ℕ) (z-pt : List ℕ) → Said r h′ zr z-rt z-pt → length zr ≡ length ys → length z-rt ≡ length rt → length z-pt ≡ length pt → Is u32 r (vint w32 r ∷ [])
-      → ent 𝓤 (⋆ 𝓤 H A (‵ (fobs γ₀ (R .coded .code h′)) ∷ ‵ (fbor κ₀ (Body (mem R) b₀ o₀ γ₀)) ∷ ‵ (flft κ₀ q₀) ∷ ‵ (flft κ₁ q₁) ∷ (‵ (flft κ₂ q₂) ⊛ ‵ (flft κ₃ q₃) ⊛ ‵ (flft κ₄ q₄) ⊛ ‵ ftrue) ∷ ‵ (finally S γ₂ zr) ∷ ‵ (finally u32 γ₃ z-rt) ∷ ‵ (finally u32 γ₄ z-pt) ∷ ‵ (ShrSlice (named 4) κ₄ u8 .own x₅ (s₅ ∷ [])) ∷ [])) (Post (vint w32 r))
-  exits r h′ zr z-rt z-pt said same-rows same-rt same-pt is =
-      qed W (‵ (fobs γ₀ (R .coded .code h′)) ∷ ‵ (fbor κ₀ (Body (mem R) b₀ o₀ γ₀)) ∷ ‵ (flft κ₀ q₀) ∷ ‵ (flft κ₁ q₁) ∷ (‵ (flft κ₂ q₂) ⊛ ‵ (flft κ₃ q₃) ⊛ ‵ (flft κ₄ q₄) ⊛ ‵ ftrue) ∷ ‵ (finally S γ₂ zr) ∷ ‵ (finally u32 γ₃ z-rt) ∷ ‵ (finally u32 γ₄ z-pt) ∷ ‵ (ShrSlice (named 4) κ₄ u8 .own x₅ (s₅ ∷ [])) ∷ []) ∵
-      suffices ! _ (ends-at 𝓤 H A f.ended stayed (f.clauses 𝓤 H A at-mem run) W (((κ₀, (κ₁, (κ₂, (κ₃, (κ₄, tt))))), (q₀, (q₁, (q₂, (q₃, (q₄, tt))))), tt, a, at), tt) (vint w32 r) r (h′, (tt, (zr, (z-rt, (z-pt, (tt, tt)))))) (tt, (tt, (same-rows, (same-rt, (same-pt, (tt, tt))))))) $ says ! said $
+  exits : (r : ℕ) (h′ : Head) (zr : List Branch) (z-rt : List ℕ) (z-pt : List ℕ) (z-nt : List ℕ) → Said r h′ zr z-rt z-pt z-nt → length zr ≡ length ys → length z-rt ≡ length rt → length z-pt ≡ length pt → length z-nt ≡ length nt → Is u32 r (vint w32 r ∷ [])
+      → ent 𝓤 (⋆ 𝓤 H A (‵ (fobs γ₀ (R .coded .code h′)) ∷ ‵ (fbor κ₀ (Body (mem R) b₀ o₀ γ₀)) ∷ ‵ (flft κ₀ q₀) ∷ ‵ (flft κ₁ q₁) ∷ (‵ (flft κ₂ q₂) ⊛ ‵ (flft κ₃ q₃) ⊛ ‵ (flft κ₄ q₄) ⊛ ‵ (flft κ₅ q₅) ⊛ ‵ ftrue) ∷ ‵ (finally S γ₂ zr) ∷ ‵ (finally u32 γ₃ z-rt) ∷ ‵ (finally u32 γ₄ z-pt) ∷ ‵ (finally u32 γ₅ z-nt) ∷ ‵ (ShrSlice (named 5) κ₅ u8 .own x₆ (s₆ ∷ [])) ∷ [])) (Post (vint w32 r))
+  exits r h′ zr z-rt z-pt z-nt said same-rows same-rt same-pt same-nt is =
+      qed W (‵ (fobs γ₀ (R .coded .code h′)) ∷ ‵ (fbor κ₀ (Body (mem R) b₀ o₀ γ₀)) ∷ ‵ (flft κ₀ q₀) ∷ ‵ (flft κ₁ q₁) ∷ (‵ (flft κ₂ q₂) ⊛ ‵ (flft κ₃ q₃) ⊛ ‵ (flft κ₄ q₄) ⊛ ‵ (flft κ₅ q₅) ⊛ ‵ ftrue) ∷ ‵ (finally S γ₂ zr) ∷ ‵ (finally u32 γ₃ z-rt) ∷ ‵ (finally u32 γ₄ z-pt) ∷ ‵ (finally u32 γ₅ z-nt) ∷ ‵ (ShrSlice (named 5) κ₅ u8 .own x₆ (s₆ ∷ [])) ∷ []) ∵
+      suffices ! _ (ends-at 𝓤 H A f.ended stayed (f.clauses 𝓤 H A at-mem run) W (((κ₀, (κ₁, (κ₂, (κ₃, (κ₄, (κ₅, tt)))))), (q₀, (q₁, (q₂, (q₃, (q₄, (q₅, tt)))))), tt, a, at), tt) (vint w32 r) r (h′, (tt, (zr, (z-rt, (z-pt, (z-nt, (tt, tt))))))) (tt, (tt, (same-rows, (same-rt, (same-pt, (same-nt, (tt, tt)))))))) $ says ! said $
       move ! (3 ∷ 4 ∷ []) $
       join ! $
       move ! (3 ∷ 0 ∷ []) $
@@ -155,6 +161,8 @@ module _ {M : Type 1} (𝓤 : URA M) (H : Heap 𝓤) (A : Atoms 𝓤) (W : Given
       feqI ! (List Val) (vptr b₀ o₀ ∷ []) (vptr b₀ o₀ ∷ []) refl $
       fjoin3 ! $
       nothing ! $
+      move ! (6 ∷ 0 ∷ []) $
+      fjoin ! $
       move ! (5 ∷ 0 ∷ []) $
       fjoin ! $
       move ! (4 ∷ 0 ∷ []) $
@@ -179,19 +187,19 @@ module _ {M : Type 1} (𝓤 : URA M) (H : Heap 𝓤) (A : Atoms 𝓤) (W : Given
   refused-is = (refl, lit< tt)
 
   -- what the core ensures, of its result and the last lists; zt is the table's
-  abbrev Did : Made → List ℕ → List ℕ → List ℕ → Type 0
-  Did r zt z-rt z-pt = (dropL (length ys * branchWidth) zt ≡ dropL (length ys * branchWidth) (full ys)) × FreshLeaves h (lent (take (length ys) (branchRowsOf (full ys))) rt pt slab) size (r .refusal) (r .head) (lent (take (length ys) (branchRowsOf zt)) z-rt z-pt slab)
+  abbrev Did : Made → List ℕ → List ℕ → List ℕ → List ℕ → Type 0
+  Did r zt z-rt z-pt z-nt = (dropL (length ys * branchWidth) zt ≡ dropL (length ys * branchWidth) (full ys)) × FreshLeaves h (lent (take (length ys) (branchRowsOf (full ys))) rt pt nt slab) size (r .refusal) (r .head) (lent (take (length ys) (branchRowsOf zt)) z-rt z-pt z-nt slab)
 
-  stored-said : length ys ≤ 4096 → (r : Made) (zt : List ℕ) (zr : List Branch) (z-rt : List ℕ) (z-pt : List ℕ) → Did r zt z-rt z-pt → zr ≡ take (length ys) (branchRowsOf zt) → Said (r .refusal) (r .head) zr z-rt z-pt
-  stored-said small r zt zr z-rt z-pt did e =
+  stored-said : length ys ≤ 4096 → (r : Made) (zt : List ℕ) (zr : List Branch) (z-rt : List ℕ) (z-pt : List ℕ) (z-nt : List ℕ) → Did r zt z-rt z-pt z-nt → zr ≡ take (length ys) (branchRowsOf zt) → Said (r .refusal) (r .head) zr z-rt z-pt z-nt
+  stored-said small r zt zr z-rt z-pt z-nt did e =
       let said = did .1 in rw e (rw (full-rows ys small) at said)
 
   -- what the core is handed; l is the table's block
   abbrev to-core : ℕ → ℕ → GName → Co 𝓤 H A at-mem run .Ghost
-  to-core l ν ε = (((ν ∷ [], (κ₂, (κ₃, (κ₄, tt)))), (fullShare, (q₂, (q₃, (q₄, tt)))), tt, (h, (size, (length ys, (at-list l ε (full ys), (x₃, (x₄, (x₅, tt))))))), (T′.lowered h ∷ [], (vint w32 size ∷ [], (vint w64 (length ys) ∷ [], (sliceVal (l, 0) N ∷ [], (s₃ ∷ [], (s₄ ∷ [], (s₅ ∷ [], tt)))))))), tt)
+  to-core l ν ε = (((ν ∷ [], (κ₂, (κ₃, (κ₄, (κ₅, tt))))), (fullShare, (q₂, (q₃, (q₄, (q₅, tt))))), tt, (h, (size, (length ys, (at-list l ε (full ys), (x₃, (x₄, (x₅, (x₆, tt)))))))), (T′.lowered h ∷ [], (vint w32 size ∷ [], (vint w64 (length ys) ∷ [], (sliceVal (l, 0) N ∷ [], (s₃ ∷ [], (s₄ ∷ [], (s₅ ∷ [], (s₆ ∷ [], tt))))))))), tt)
 
-  goes-core : length ys ≤ 4096 → (l ν : ℕ) (ε : GName) → ent 𝓤 (⋆ 𝓤 H A ((‵ (flft (ν ∷ []) fullShare) ⊛ ‵ (flft κ₂ q₂) ⊛ ‵ (flft κ₃ q₃) ⊛ ‵ (flft κ₄ q₄) ⊛ ‵ ftrue) ∷ ‵ (owns (R ∷ u32 ∷ usize ∷ MutSlice (named 0) (ν ∷ []) u32 ∷ MutSlice (named 2) κ₂ u32 ∷ MutSlice (named 3) κ₃ u32 ∷ ShrSlice (named 4) κ₄ u8 ∷ []) (h, (size, (length ys, (at-list l ε (full ys), (x₃, (x₄, (x₅, tt))))))) (T′.lowered h ∷ [], (vint w32 size ∷ [], (vint w64 (length ys) ∷ [], (sliceVal (l, 0) N ∷ [], (s₃ ∷ [], (s₄ ∷ [], (s₅ ∷ [], tt)))))))) ∷ [])) (Co 𝓤 H A at-mem run .pre (to-core l ν ε))
-  goes-core small l ν ε = qed W ((‵ (flft (ν ∷ []) fullShare) ⊛ ‵ (flft κ₂ q₂) ⊛ ‵ (flft κ₃ q₃) ⊛ ‵ (flft κ₄ q₄) ⊛ ‵ ftrue) ∷ ‵ (owns (R ∷ u32 ∷ usize ∷ MutSlice (named 0) (ν ∷ []) u32 ∷ MutSlice (named 2) κ₂ u32 ∷ MutSlice (named 3) κ₃ u32 ∷ ShrSlice (named 4) κ₄ u8 ∷ []) (h, (size, (length ys, (at-list l ε (full ys), (x₃, (x₄, (x₅, tt))))))) (T′.lowered h ∷ [], (vint w32 size ∷ [], (vint w64 (length ys) ∷ [], (sliceVal (l, 0) N ∷ [], (s₃ ∷ [], (s₄ ∷ [], (s₅ ∷ [], tt)))))))) ∷ []) ∵ says ! (full-fit ys small) $ done !
+  goes-core : length ys ≤ 4096 → (l ν : ℕ) (ε : GName) → ent 𝓤 (⋆ 𝓤 H A ((‵ (flft (ν ∷ []) fullShare) ⊛ ‵ (flft κ₂ q₂) ⊛ ‵ (flft κ₃ q₃) ⊛ ‵ (flft κ₄ q₄) ⊛ ‵ (flft κ₅ q₅) ⊛ ‵ ftrue) ∷ ‵ (owns (R ∷ u32 ∷ usize ∷ MutSlice (named 0) (ν ∷ []) u32 ∷ MutSlice (named 2) κ₂ u32 ∷ MutSlice (named 3) κ₃ u32 ∷ MutSlice (named 4) κ₄ u32 ∷ ShrSlice (named 5) κ₅ u8 ∷ []) (h, (size, (length ys, (at-list l ε (full ys), (x₃, (x₄, (x₅, (x₆, tt)))))))) (T′.lowered h ∷ [], (vint w32 size ∷ [], (vint w64 (length ys) ∷ [], (sliceVal (l, 0) N ∷ [], (s₃ ∷ [], (s₄ ∷ [], (s₅ ∷ [], (s₆ ∷ [], tt))))))))) ∷ [])) (Co 𝓤 H A at-mem run .pre (to-core l ν ε))
+  goes-core small l ν ε = qed W ((‵ (flft (ν ∷ []) fullShare) ⊛ ‵ (flft κ₂ q₂) ⊛ ‵ (flft κ₃ q₃) ⊛ ‵ (flft κ₄ q₄) ⊛ ‵ (flft κ₅ q₅) ⊛ ‵ ftrue) ∷ ‵ (owns (R ∷ u32 ∷ usize ∷ MutSlice (named 0) (ν ∷ []) u32 ∷ MutSlice (named 2) κ₂ u32 ∷ MutSlice (named 3) κ₃ u32 ∷ MutSlice (named 4) κ₄ u32 ∷ ShrSlice (named 5) κ₅ u8 ∷ []) (h, (size, (length ys, (at-list l ε (full ys), (x₃, (x₄, (x₅, (x₆, tt)))))))) (T′.lowered h ∷ [], (vint w32 size ∷ [], (vint w64 (length ys) ∷ [], (sliceVal (l, 0) N ∷ [], (s₃ ∷ [], (s₄ ∷ [], (s₅ ∷ [], (s₆ ∷ [], tt))))))))) ∷ []) ∵ says ! (full-fit ys small) $ done !
 
   -- what whoever holds the core's result knows of its head and of what is given back
   head-is : (r : Made) {vs : List Val} → Is O.the-row r vs → Is R (r .head) (T′.lowered (r .head) ∷ [])
@@ -202,21 +210,21 @@ module _ {M : Type 1} (𝓤 : URA M) (H : Heap 𝓤) (A : Atoms 𝓤) (W : Given
 
   module _ (C : Calls 𝓤 H) (Λ : Loops 𝓤 H) (fm : FmC 𝓤 H (W .laws) C) (known-load : Triple 𝓤 (C #lent·load-rows) (Ld 𝓤 H A at-mem run)) (known-core : Triple 𝓤 (C #lent·fresh-rows) (Co 𝓤 H A at-mem run)) (known-store : Triple 𝓤 (C #lent·store-rows) (St 𝓤 H A at-mem run)) where
     abbrev Goal : Type 1
-    Goal = ent 𝓤 (onEntry 𝓤 H A f.signature (κ₀, (κ₁, (κ₂, (κ₃, (κ₄, tt))))) (q₀, (q₁, (q₂, (q₃, (q₄, tt))))) a at) (WpFn 𝓤 H C Λ code.function (vptr b₀ o₀ ∷ vint w32 size ∷ s₂ ∷ s₃ ∷ s₄ ∷ s₅ ∷ []) Post)
+    Goal = ent 𝓤 (onEntry 𝓤 H A f.signature (κ₀, (κ₁, (κ₂, (κ₃, (κ₄, (κ₅, tt)))))) (q₀, (q₁, (q₂, (q₃, (q₄, (q₅, tt)))))) a at) (WpFn 𝓤 H C Λ code.function (vptr b₀ o₀ ∷ vint w32 size ∷ s₂ ∷ s₃ ∷ s₄ ∷ s₅ ∷ s₆ ∷ []) Post)
 
     many : ltb 4096 (length ys) ≡ true → Goal
     many e =
         let big : 4096 < length ys = ltb-true 4096 (length ys) e in
-        qed W ((‵ (flft κ₀ q₀) ⊛ ‵ (flft κ₁ q₁) ⊛ ‵ (flft κ₂ q₂) ⊛ ‵ (flft κ₃ q₃) ⊛ ‵ (flft κ₄ q₄) ⊛ ‵ ftrue) ∷ ‵ (owns (MutRef (named 0) κ₀ R ∷ u32 ∷ MutSlice (named 1) κ₁ S ∷ MutSlice (named 2) κ₂ u32 ∷ MutSlice (named 3) κ₃ u32 ∷ ShrSlice (named 4) κ₄ u8 ∷ []) a at) ∷ []) ∵ enter ! C Λ code.function (vptr b₀ o₀ ∷ vint w32 size ∷ s₂ ∷ s₃ ∷ s₄ ∷ s₅ ∷ []) _ $
-        alloc1 ! (λ l₀. alloc1 ! (λ l₁. alloc1 ! (λ l₂. alloc1 ! (λ l₃. alloc1 ! (λ l₄. alloc1 ! (λ l₅. alloc1 ! (λ l₆. alloc1 ! (λ l₇. alloc1 ! (λ l₈. alloc1 ! (λ l₉. alloc1 ! (λ l₁₀. alloc1 ! (λ l₁₁. alloc1 ! (λ l₁₂. alloc1 ! (λ l₁₃. alloc1 ! (λ l₁₄. alloc1 ! (λ l₁₅. alloc1 ! (λ l₁₆. alloc1 ! (λ l₁₇. alloc1 ! (λ l₁₈. alloc1 ! (λ l₁₉. alloc1 ! (λ l₂₀. alloc1 ! (λ l₂₁. alloc1 ! (λ l₂₂. alloc1 ! (λ l₂₃. alloc1 ! (λ l₂₄. alloc1 ! (λ l₂₅. alloc1 ! (λ l₂₆. alloc0 ! $ params1 ! $
-        pass1 ! (init ! 50 refl (tt, tt)) $ pass1 ! (init ! 48 refl (tt, record { fits = fits₁ })) $ pass1 ! (init ! 46 refl (tt, (tt, (record { fits = room₂ .0 }, tt)))) $ pass1 ! (init ! 44 refl (tt, (tt, (record { fits = room₃ .0 }, tt)))) $ pass1 ! (init ! 42 refl (tt, (tt, (record { fits = room₄ .0 }, tt)))) $ pass1 ! (init ! 40 refl (tt, (tt, (record { fits = room₅ .0 }, tt)))) $ pass0 ! $
-        assigns ! (of-opd ! (load ! (from ! (fld ! refl (stop !))) (look-in ! 46 (sub ! 1 refl (whole !))))) (from ! (stop !)) (init ! 34 refl (tt, record { fits = room₂ .0 })) $
-        assigns ! (bin ! (big-lit ! (record { fits = lit< tt })) (load ! (from ! (stop !)) (look ! 34 refl)) tt) (from ! (stop !)) (init ! 32 refl (tt, tt)) $
-        rewrite ! 32 (λ (t : Bool). ‵ (fat fullShare tyBool l₁₀ 0 (vbool t))) (e) refl $
-        enters ! (load ! (from ! (stop !)) (look ! 32 refl)) $
-        assigns ! (of-opd ! (lit ! tt)) (from ! (stop !)) (init ! 52 refl (uint-lawful 𝓤 H A W w32 .typed refused _ refused-is .0)) $
-        returns-within ! Post refl (look ! 52 refl) $
-        move ! (55 ∷ []) $
+        qed W ((‵ (flft κ₀ q₀) ⊛ ‵ (flft κ₁ q₁) ⊛ ‵ (flft κ₂ q₂) ⊛ ‵ (flft κ₃ q₃) ⊛ ‵ (flft κ₄ q₄) ⊛ ‵ (flft κ₅ q₅) ⊛ ‵ ftrue) ∷ ‵ (owns (MutRef (named 0) κ₀ R ∷ u32 ∷ MutSlice (named 1) κ₁ S ∷ MutSlice (named 2) κ₂ u32 ∷ MutSlice (named 3) κ₃ u32 ∷ MutSlice (named 4) κ₄ u32 ∷ ShrSlice (named 5) κ₅ u8 ∷ []) a at) ∷ []) ∵ enter ! C Λ code.function (vptr b₀ o₀ ∷ vint w32 size ∷ s₂ ∷ s₃ ∷ s₄ ∷ s₅ ∷ s₆ ∷ []) _ $
+        alloc1 ! (λ l₀. alloc1 ! (λ l₁. alloc1 ! (λ l₂. alloc1 ! (λ l₃. alloc1 ! (λ l₄. alloc1 ! (λ l₅. alloc1 ! (λ l₆. alloc1 ! (λ l₇. alloc1 ! (λ l₈. alloc1 ! (λ l₉. alloc1 ! (λ l₁₀. alloc1 ! (λ l₁₁. alloc1 ! (λ l₁₂. alloc1 ! (λ l₁₃. alloc1 ! (λ l₁₄. alloc1 ! (λ l₁₅. alloc1 ! (λ l₁₆. alloc1 ! (λ l₁₇. alloc1 ! (λ l₁₈. alloc1 ! (λ l₁₉. alloc1 ! (λ l₂₀. alloc1 ! (λ l₂₁. alloc1 ! (λ l₂₂. alloc1 ! (λ l₂₃. alloc1 ! (λ l₂₄. alloc1 ! (λ l₂₅. alloc1 ! (λ l₂₆. alloc1 ! (λ l₂₇. alloc1 ! (λ l₂₈. alloc1 ! (λ l₂₉. alloc0 ! $ params1 ! $
+        pass1 ! (init ! 56 refl (tt, tt)) $ pass1 ! (init ! 54 refl (tt, record { fits = fits₁ })) $ pass1 ! (init ! 52 refl (tt, (tt, (record { fits = room₂ .0 }, tt)))) $ pass1 ! (init ! 50 refl (tt, (tt, (record { fits = room₃ .0 }, tt)))) $ pass1 ! (init ! 48 refl (tt, (tt, (record { fits = room₄ .0 }, tt)))) $ pass1 ! (init ! 46 refl (tt, (tt, (record { fits = room₅ .0 }, tt)))) $ pass1 ! (init ! 44 refl (tt, (tt, (record { fits = room₆ .0 }, tt)))) $ pass0 ! $
+        assigns ! (of-opd ! (load ! (from ! (fld ! refl (stop !))) (look-in ! 52 (sub ! 1 refl (whole !))))) (from ! (stop !)) (init ! 38 refl (tt, record { fits = room₂ .0 })) $
+        assigns ! (bin ! (big-lit ! (record { fits = lit< tt })) (load ! (from ! (stop !)) (look ! 38 refl)) tt) (from ! (stop !)) (init ! 36 refl (tt, tt)) $
+        rewrite ! 36 (λ (t : Bool). ‵ (fat fullShare tyBool l₁₁ 0 (vbool t))) (e) refl $
+        enters ! (load ! (from ! (stop !)) (look ! 36 refl)) $
+        assigns ! (of-opd ! (lit ! tt)) (from ! (stop !)) (init ! 58 refl (uint-lawful 𝓤 H A W w32 .typed refused _ refused-is .0)) $
+        returns-within ! Post refl (look ! 58 refl) $
+        move ! (61 ∷ []) $
         fsplit ! $
         move ! (1 ∷ []) $
         fsplit ! $
@@ -229,103 +237,114 @@ module _ {M : Type 1} (𝓤 : URA M) (H : Heap 𝓤) (A : Atoms 𝓤) (W : Given
         move ! (1 ∷ []) $
         fsplit ! $
         move ! (1 ∷ []) $
+        fsplit ! $
+        move ! (1 ∷ []) $
         drop ! $
-        move ! (4 ∷ []) $
+        move ! (5 ∷ []) $
         fsplit3 ! $
         drop ! $
-        move ! (60 ∷ []) $
+        move ! (67 ∷ []) $
         split ! $
         move ! (1 ∷ []) $
         split ! $
-        move ! (8 ∷ []) $
+        move ! (9 ∷ []) $
         use1 W (‵ (finally S γ₂ ys)) (gives-slice 𝓤 H A W (named 1) κ₁ S x₂ (s₂ ∷ [])) $
-        move ! (8 ∷ []) $
+        move ! (9 ∷ []) $
         use1 W (‵ (finally u32 γ₃ rt)) (gives-slice 𝓤 H A W (named 2) κ₂ u32 x₃ (s₃ ∷ [])) $
-        move ! (8 ∷ []) $
+        move ! (9 ∷ []) $
         use1 W (‵ (finally u32 γ₄ pt)) (gives-slice 𝓤 H A W (named 3) κ₃ u32 x₄ (s₄ ∷ [])) $
-        forget ! 61 refl $
-        forget ! 59 refl $
-        forget ! 57 refl $
-        forget ! 55 refl $
-        forget ! 53 refl $
-        forget ! 51 refl $
-        forget ! 49 refl $
-        forget ! 43 refl $
-        forget ! 41 refl $
-        move ! (61 ∷ 62 ∷ []) $
+        move ! (9 ∷ []) $
+        use1 W (‵ (finally u32 γ₅ nt)) (gives-slice 𝓤 H A W (named 4) κ₄ u32 x₅ (s₅ ∷ [])) $
+        forget ! 68 refl $
+        forget ! 66 refl $
+        forget ! 64 refl $
+        forget ! 62 refl $
+        forget ! 60 refl $
+        forget ! 58 refl $
+        forget ! 56 refl $
+        forget ! 54 refl $
+        forget ! 48 refl $
+        forget ! 46 refl $
+        move ! (68 ∷ 69 ∷ []) $
         free1 ! $
-        move ! (59 ∷ 60 ∷ []) $
+        move ! (66 ∷ 67 ∷ []) $
         free1 ! $
-        move ! (57 ∷ 58 ∷ []) $
+        move ! (64 ∷ 65 ∷ []) $
         free1 ! $
-        move ! (55 ∷ 56 ∷ []) $
+        move ! (62 ∷ 63 ∷ []) $
         free1 ! $
-        move ! (53 ∷ 54 ∷ []) $
+        move ! (60 ∷ 61 ∷ []) $
         free1 ! $
-        move ! (51 ∷ 52 ∷ []) $
+        move ! (58 ∷ 59 ∷ []) $
         free1 ! $
-        move ! (49 ∷ 50 ∷ []) $
+        move ! (56 ∷ 57 ∷ []) $
         free1 ! $
-        move ! (47 ∷ 48 ∷ []) $
+        move ! (54 ∷ 55 ∷ []) $
         free1 ! $
-        move ! (45 ∷ 46 ∷ []) $
+        move ! (52 ∷ 53 ∷ []) $
         free1 ! $
-        move ! (43 ∷ 44 ∷ []) $
+        move ! (50 ∷ 51 ∷ []) $
         free1 ! $
-        move ! (41 ∷ 42 ∷ []) $
+        move ! (48 ∷ 49 ∷ []) $
         free1 ! $
-        move ! (39 ∷ 40 ∷ []) $
+        move ! (46 ∷ 47 ∷ []) $
         free1 ! $
-        move ! (37 ∷ 38 ∷ []) $
+        move ! (44 ∷ 45 ∷ []) $
         free1 ! $
-        move ! (35 ∷ 36 ∷ []) $
+        move ! (42 ∷ 43 ∷ []) $
         free1 ! $
-        move ! (33 ∷ 34 ∷ []) $
+        move ! (40 ∷ 41 ∷ []) $
         free1 ! $
-        move ! (31 ∷ 32 ∷ []) $
+        move ! (38 ∷ 39 ∷ []) $
         free1 ! $
-        move ! (29 ∷ 30 ∷ []) $
+        move ! (36 ∷ 37 ∷ []) $
         free1 ! $
-        move ! (27 ∷ 28 ∷ []) $
+        move ! (34 ∷ 35 ∷ []) $
         free1 ! $
-        move ! (25 ∷ 26 ∷ []) $
+        move ! (32 ∷ 33 ∷ []) $
         free1 ! $
-        move ! (23 ∷ 24 ∷ []) $
+        move ! (30 ∷ 31 ∷ []) $
         free1 ! $
-        move ! (21 ∷ 22 ∷ []) $
+        move ! (28 ∷ 29 ∷ []) $
         free1 ! $
-        move ! (19 ∷ 20 ∷ []) $
+        move ! (26 ∷ 27 ∷ []) $
         free1 ! $
-        move ! (17 ∷ 18 ∷ []) $
+        move ! (24 ∷ 25 ∷ []) $
         free1 ! $
-        move ! (15 ∷ 16 ∷ []) $
+        move ! (22 ∷ 23 ∷ []) $
         free1 ! $
-        move ! (13 ∷ 14 ∷ []) $
+        move ! (20 ∷ 21 ∷ []) $
         free1 ! $
-        move ! (11 ∷ 12 ∷ []) $
+        move ! (18 ∷ 19 ∷ []) $
         free1 ! $
-        move ! (9 ∷ 10 ∷ []) $
+        move ! (16 ∷ 17 ∷ []) $
+        free1 ! $
+        move ! (14 ∷ 15 ∷ []) $
+        free1 ! $
+        move ! (12 ∷ 13 ∷ []) $
+        free1 ! $
+        move ! (10 ∷ 11 ∷ []) $
         free1 ! $
         free0 ! $
-        keep ! (6 ∷ 7 ∷ 5 ∷ 3 ∷ 4 ∷ 2 ∷ 1 ∷ 0 ∷ 8 ∷ []) $
-        by ! (exits refused h ys rt pt (many-fresh-leaves h (lent ys rt pt slab) big size) refl refl refl refused-is))))))))))))))))))))))))))))
+        keep ! (7 ∷ 8 ∷ 6 ∷ 4 ∷ 5 ∷ 3 ∷ 2 ∷ 1 ∷ 0 ∷ 9 ∷ []) $
+        by ! (exits refused h ys rt pt nt (many-fresh-leaves h (lent ys rt pt nt slab) big size) refl refl refl refl refused-is)))))))))))))))))))))))))))))))
 
     few : ltb 4096 (length ys) ≡ false → Goal
     few e =
         let small : length ys ≤ 4096 = ltb-false 4096 (length ys) e in
-        qed W ((‵ (flft κ₀ q₀) ⊛ ‵ (flft κ₁ q₁) ⊛ ‵ (flft κ₂ q₂) ⊛ ‵ (flft κ₃ q₃) ⊛ ‵ (flft κ₄ q₄) ⊛ ‵ ftrue) ∷ ‵ (owns (MutRef (named 0) κ₀ R ∷ u32 ∷ MutSlice (named 1) κ₁ S ∷ MutSlice (named 2) κ₂ u32 ∷ MutSlice (named 3) κ₃ u32 ∷ ShrSlice (named 4) κ₄ u8 ∷ []) a at) ∷ []) ∵ enter ! C Λ code.function (vptr b₀ o₀ ∷ vint w32 size ∷ s₂ ∷ s₃ ∷ s₄ ∷ s₅ ∷ []) _ $
-        alloc1 ! (λ l₀. alloc1 ! (λ l₁. alloc1 ! (λ l₂. alloc1 ! (λ l₃. alloc1 ! (λ l₄. alloc1 ! (λ l₅. alloc1 ! (λ l₆. alloc1 ! (λ l₇. alloc1 ! (λ l₈. alloc1 ! (λ l₉. alloc1 ! (λ l₁₀. alloc1 ! (λ l₁₁. alloc1 ! (λ l₁₂. alloc1 ! (λ l₁₃. alloc1 ! (λ l₁₄. alloc1 ! (λ l₁₅. alloc1 ! (λ l₁₆. alloc1 ! (λ l₁₇. alloc1 ! (λ l₁₈. alloc1 ! (λ l₁₉. alloc1 ! (λ l₂₀. alloc1 ! (λ l₂₁. alloc1 ! (λ l₂₂. alloc1 ! (λ l₂₃. alloc1 ! (λ l₂₄. alloc1 ! (λ l₂₅. alloc1 ! (λ l₂₆. alloc0 ! $ params1 ! $
-        pass1 ! (init ! 50 refl (tt, tt)) $ pass1 ! (init ! 48 refl (tt, record { fits = fits₁ })) $ pass1 ! (init ! 46 refl (tt, (tt, (record { fits = room₂ .0 }, tt)))) $ pass1 ! (init ! 44 refl (tt, (tt, (record { fits = room₃ .0 }, tt)))) $ pass1 ! (init ! 42 refl (tt, (tt, (record { fits = room₄ .0 }, tt)))) $ pass1 ! (init ! 40 refl (tt, (tt, (record { fits = room₅ .0 }, tt)))) $ pass0 ! $
-        assigns ! (of-opd ! (load ! (from ! (fld ! refl (stop !))) (look-in ! 46 (sub ! 1 refl (whole !))))) (from ! (stop !)) (init ! 34 refl (tt, record { fits = room₂ .0 })) $
-        assigns ! (bin ! (big-lit ! (record { fits = lit< tt })) (load ! (from ! (stop !)) (look ! 34 refl)) tt) (from ! (stop !)) (init ! 32 refl (tt, tt)) $
-        rewrite ! 32 (λ (t : Bool). ‵ (fat fullShare tyBool l₁₀ 0 (vbool t))) (e) refl $
-        falls ! (load ! (from ! (stop !)) (look ! 32 refl)) $
+        qed W ((‵ (flft κ₀ q₀) ⊛ ‵ (flft κ₁ q₁) ⊛ ‵ (flft κ₂ q₂) ⊛ ‵ (flft κ₃ q₃) ⊛ ‵ (flft κ₄ q₄) ⊛ ‵ (flft κ₅ q₅) ⊛ ‵ ftrue) ∷ ‵ (owns (MutRef (named 0) κ₀ R ∷ u32 ∷ MutSlice (named 1) κ₁ S ∷ MutSlice (named 2) κ₂ u32 ∷ MutSlice (named 3) κ₃ u32 ∷ MutSlice (named 4) κ₄ u32 ∷ ShrSlice (named 5) κ₅ u8 ∷ []) a at) ∷ []) ∵ enter ! C Λ code.function (vptr b₀ o₀ ∷ vint w32 size ∷ s₂ ∷ s₃ ∷ s₄ ∷ s₅ ∷ s₆ ∷ []) _ $
+        alloc1 ! (λ l₀. alloc1 ! (λ l₁. alloc1 ! (λ l₂. alloc1 ! (λ l₃. alloc1 ! (λ l₄. alloc1 ! (λ l₅. alloc1 ! (λ l₆. alloc1 ! (λ l₇. alloc1 ! (λ l₈. alloc1 ! (λ l₉. alloc1 ! (λ l₁₀. alloc1 ! (λ l₁₁. alloc1 ! (λ l₁₂. alloc1 ! (λ l₁₃. alloc1 ! (λ l₁₄. alloc1 ! (λ l₁₅. alloc1 ! (λ l₁₆. alloc1 ! (λ l₁₇. alloc1 ! (λ l₁₈. alloc1 ! (λ l₁₉. alloc1 ! (λ l₂₀. alloc1 ! (λ l₂₁. alloc1 ! (λ l₂₂. alloc1 ! (λ l₂₃. alloc1 ! (λ l₂₄. alloc1 ! (λ l₂₅. alloc1 ! (λ l₂₆. alloc1 ! (λ l₂₇. alloc1 ! (λ l₂₈. alloc1 ! (λ l₂₉. alloc0 ! $ params1 ! $
+        pass1 ! (init ! 56 refl (tt, tt)) $ pass1 ! (init ! 54 refl (tt, record { fits = fits₁ })) $ pass1 ! (init ! 52 refl (tt, (tt, (record { fits = room₂ .0 }, tt)))) $ pass1 ! (init ! 50 refl (tt, (tt, (record { fits = room₃ .0 }, tt)))) $ pass1 ! (init ! 48 refl (tt, (tt, (record { fits = room₄ .0 }, tt)))) $ pass1 ! (init ! 46 refl (tt, (tt, (record { fits = room₅ .0 }, tt)))) $ pass1 ! (init ! 44 refl (tt, (tt, (record { fits = room₆ .0 }, tt)))) $ pass0 ! $
+        assigns ! (of-opd ! (load ! (from ! (fld ! refl (stop !))) (look-in ! 52 (sub ! 1 refl (whole !))))) (from ! (stop !)) (init ! 38 refl (tt, record { fits = room₂ .0 })) $
+        assigns ! (bin ! (big-lit ! (record { fits = lit< tt })) (load ! (from ! (stop !)) (look ! 38 refl)) tt) (from ! (stop !)) (init ! 36 refl (tt, tt)) $
+        rewrite ! 36 (λ (t : Bool). ‵ (fat fullShare tyBool l₁₁ 0 (vbool t))) (e) refl $
+        falls ! (load ! (from ! (stop !)) (look ! 36 refl)) $
         -- the table is made, and stands as its elements from now on
-        assigns ! (rep ! N (lit ! tt)) (from ! (stop !)) (init ! 38 refl (repeat-typed u32 0 (vint w32 0) zero-is 𝓤 H A W N (uint-lawful 𝓤 H A W w32))) $
+        assigns ! (rep ! N (lit ! tt)) (from ! (stop !)) (init ! 42 refl (repeat-typed u32 0 (vint w32 0) zero-is 𝓤 H A W N (uint-lawful 𝓤 H A W w32))) $
         use0 W (‵ (Array u32 N .own zeros (repeat-val N (vint w32 0) ∷ []))) (repeat-own u32 0 (vint w32 0) zero-is 𝓤 H A W N (uint-makes 𝓤 H A W w32) (uint-copy 𝓤 H A W w32)) $
-        move ! (39 ∷ 0 ∷ []) $
-        use2 W (‵ (here u32 N l₇ zeros)) (array-in 𝓤 H A W u32 N l₇ tt zeros (repeat-val N (vint w32 0))) $
-        move ! (55 ∷ []) $
+        move ! (43 ∷ 0 ∷ []) $
+        use2 W (‵ (here u32 N l₈ zeros)) (array-in 𝓤 H A W u32 N l₈ tt zeros (repeat-val N (vint w32 0))) $
+        move ! (61 ∷ []) $
         fsplit ! $
         move ! (1 ∷ []) $
         fsplit ! $
@@ -338,27 +357,29 @@ module _ {M : Type 1} (𝓤 : URA M) (H : Heap 𝓤) (A : Atoms 𝓤) (W : Given
         move ! (1 ∷ []) $
         fsplit ! $
         move ! (1 ∷ []) $
+        fsplit ! $
+        move ! (1 ∷ []) $
         drop ! $
-        move ! (4 ∷ []) $
+        move ! (5 ∷ []) $
         fsplit3 ! $
         drop ! $
-        move ! (60 ∷ []) $
+        move ! (67 ∷ []) $
         split ! $
         move ! (1 ∷ []) $
         split ! $
         -- ---- load_rows(&*branches, &mut table)
-        assigns ! (addr ! (from ! (fld ! refl (hop ! (look-in ! 55 (sub ! 0 refl (whole !))) (stop !))))) (from ! (stop !)) (init ! 38 refl (tt, tt)) $
-        assigns ! (agg ! (and-then ! (load ! (from ! (stop !)) (look ! 38 refl)) (and-then ! (load ! (from ! (fld ! refl (stop !))) (look-in ! 55 (sub ! 1 refl (whole !)))) (no-more !)))) (from ! (stop !)) (init ! 36 refl (tt, (tt, (record { fits = room₂ .0 }, tt)))) $
-        assigns ! (addr ! (from ! (stop !))) (from ! (stop !)) (init ! 34 refl (tt, tt)) $
-        assigns ! (agg ! (and-then ! (load ! (from ! (stop !)) (look ! 34 refl)) (and-then ! (big-lit ! (record { fits = lit< tt })) (no-more !)))) (from ! (stop !)) (init ! 32 refl (tt, (tt, (record { fits = lit< tt }, tt)))) $
+        assigns ! (addr ! (from ! (fld ! refl (hop ! (look-in ! 62 (sub ! 0 refl (whole !))) (stop !))))) (from ! (stop !)) (init ! 43 refl (tt, tt)) $
+        assigns ! (agg ! (and-then ! (load ! (from ! (stop !)) (look ! 43 refl)) (and-then ! (load ! (from ! (fld ! refl (stop !))) (look-in ! 62 (sub ! 1 refl (whole !)))) (no-more !)))) (from ! (stop !)) (init ! 41 refl (tt, (tt, (record { fits = room₂ .0 }, tt)))) $
+        assigns ! (addr ! (from ! (stop !))) (from ! (stop !)) (init ! 39 refl (tt, tt)) $
+        assigns ! (agg ! (and-then ! (load ! (from ! (stop !)) (look ! 39 refl)) (and-then ! (big-lit ! (record { fits = lit< tt })) (no-more !)))) (from ! (stop !)) (init ! 37 refl (tt, (tt, (record { fits = lit< tt }, tt)))) $
         lft-new ! tt (λ ν.
         lft-new ! tt (λ μ.
-        move ! (10 ∷ 2 ∷ []) $
+        move ! (11 ∷ 2 ∷ []) $
         use2 W (later (some (λ (δ : GName). ‵ (ShrSlice (named 0) (ν ∷ []) S .own (record { ptr = (b₂, o₂); name = δ; now = ys }) (s₂ ∷ [])) ⊛ ‵ (LentShared S κ₁ (ν ∷ []) q₁ γ₂ b₂ o₂ 𝓤 H A W (named 1) (named 0) ys)))) (lends-shared S κ₁ (ν ∷ []) q₁ γ₂ b₂ o₂ 𝓤 H A W (named 1) (named 0) ys) $ await ! tt $
         pick ! (λ δ.
         split ! $
-        move ! (11 ∷ []) $
-        use1 W (later (some (λ (ε : GName). ‵ (MutSlice (named 1) (μ ∷ []) u32 .own (at-list l₇ ε zeros) (sliceVal (l₇, 0) N ∷ [])) ⊛ ‵ (flent (μ ∷ []) (Held u32 N l₇ 0 ε))))) (lends-local 𝓤 H A W u32 N l₇ (named 1) (μ ∷ []) zeros n-room) $ await ! tt $
+        move ! (12 ∷ []) $
+        use1 W (later (some (λ (ε : GName). ‵ (MutSlice (named 1) (μ ∷ []) u32 .own (at-list l₈ ε zeros) (sliceVal (l₈, 0) N ∷ [])) ⊛ ‵ (flent (μ ∷ []) (Held u32 N l₈ 0 ε))))) (lends-local 𝓤 H A W u32 N l₈ (named 1) (μ ∷ []) zeros n-room) $ await ! tt $
         pick ! (λ ε.
         split ! $
         nothing ! $
@@ -367,14 +388,14 @@ module _ {M : Type 1} (𝓤 : URA M) (H : Heap 𝓤) (A : Atoms 𝓤) (W : Given
         move ! (5 ∷ 0 ∷ []) $
         join ! $
         move ! (0 ∷ 3 ∷ 1 ∷ []) $
-        use3 W (raw (Ld 𝓤 H A at-mem run .pre (to-load ys small 𝓤 H A W at-mem run κ₁ q₁ b₂ o₂ γ₂ l₇ ν μ δ ε))) (goes-load ys small 𝓤 H A W at-mem run κ₁ q₁ b₂ o₂ γ₂ l₇ ν μ δ ε) $
-        -- context: [call; ltable; lrows; tkrest; tk; hobs; hbor; own-slab; own-pt; own-rt; _26; _25; _24; _23; _22; _21; _20; _19; _18; _17; _16; _15; _14; _13; _12; _11; _10; _9; _8; _6; _5; _4; _3; _2; _1; _0]
-        calls-at ! fm (Ld 𝓤 H A at-mem run) known-load (to-load ys small 𝓤 H A W at-mem run κ₁ q₁ b₂ o₂ γ₂ l₇ ν μ δ ε) (and-then ! (load ! (from ! (stop !)) (look ! 36 refl)) (and-then ! (load ! (from ! (stop !)) (look ! 32 refl)) (no-more !))) (λ w.
-        use1 W (later (some (λ (v : Unit {0}). ((‵ (flft (ν ∷ []) fullShare) ⊛ ‵ (flft (μ ∷ []) fullShare) ⊛ ‵ ftrue) ⊛ ‵ (unit .own v (w ∷ []))) ⊛ raw (ensured 𝓤 H A ld.ended (ld.clauses 𝓤 H A at-mem run) (ν ∷ [], (μ ∷ [], tt)) ((record { ptr = (b₂, o₂); name = δ; now = ys }), (at-list l₇ ε zeros, tt)) tt v)))) (id⊢ 𝓤 _) $ await ! tt $
+        use3 W (raw (Ld 𝓤 H A at-mem run .pre (to-load ys small 𝓤 H A W at-mem run κ₁ q₁ b₂ o₂ γ₂ l₈ ν μ δ ε))) (goes-load ys small 𝓤 H A W at-mem run κ₁ q₁ b₂ o₂ γ₂ l₈ ν μ δ ε) $
+        -- context: [call; ltable; lrows; tkrest; tk; hobs; hbor; own-slab; own-nt; own-pt; own-rt; _29; _28; _27; _26; _25; _24; _23; _22; _21; _20; _19; _18; _17; _16; _15; _14; _13; _12; _11; _10; _9; _7; _6; _5; _4; _3; _2; _1; _0]
+        calls-at ! fm (Ld 𝓤 H A at-mem run) known-load (to-load ys small 𝓤 H A W at-mem run κ₁ q₁ b₂ o₂ γ₂ l₈ ν μ δ ε) (and-then ! (load ! (from ! (stop !)) (look ! 41 refl)) (and-then ! (load ! (from ! (stop !)) (look ! 37 refl)) (no-more !))) (λ w.
+        use1 W (later (some (λ (v : Unit {0}). ((‵ (flft (ν ∷ []) fullShare) ⊛ ‵ (flft (μ ∷ []) fullShare) ⊛ ‵ ftrue) ⊛ ‵ (unit .own v (w ∷ []))) ⊛ raw (ensured 𝓤 H A ld.ended (ld.clauses 𝓤 H A at-mem run) (ν ∷ [], (μ ∷ [], tt)) ((record { ptr = (b₂, o₂); name = δ; now = ys }), (at-list l₈ ε zeros, tt)) tt v)))) (id⊢ 𝓤 _) $ await ! tt $
         pick ! (λ v.
         split ! $
         move ! (1 ∷ []) $
-        use1 W (some (λ (zs : Unit {0} × (List ℕ × Unit {0})). ‵ (lasts ld.ended (ν ∷ [], (μ ∷ [], tt)) ((record { ptr = (b₂, o₂); name = δ; now = ys }), (at-list l₇ ε zeros, tt)) zs) ⊛ raw (fact 𝓤 (zs .1 .0 ≡ full ys)))) (id⊢ 𝓤 _) $
+        use1 W (some (λ (zs : Unit {0} × (List ℕ × Unit {0})). ‵ (lasts ld.ended (ν ∷ [], (μ ∷ [], tt)) ((record { ptr = (b₂, o₂); name = δ; now = ys }), (at-list l₈ ε zeros, tt)) zs) ⊛ raw (fact 𝓤 (zs .1 .0 ≡ full ys)))) (id⊢ 𝓤 _) $
         pick ! (λ zs.
         split ! $
         move ! (1 ∷ []) $
@@ -392,8 +413,8 @@ module _ {M : Type 1} (𝓤 : URA M) (H : Heap 𝓤) (A : Atoms 𝓤) (W : Given
         move ! (1 ∷ []) $
         peeks ! unit (Is unit) (shows 𝓤 H A unit) v (w ∷ []) (λ is-unit.
         drop ! $
-        land ! (from ! (stop !)) (init ! 41 refl (nothing-lawful 𝓤 H A W .typed v _ is-unit .0)) $
-        forget ! 41 refl $
+        land ! (from ! (stop !)) (init ! 46 refl (nothing-lawful 𝓤 H A W .typed v _ is-unit .0)) $
+        forget ! 46 refl $
         -- both lifetimes are ended, and what was lent comes back
         split ! $
         lft-end ! tt $
@@ -406,35 +427,39 @@ module _ {M : Type 1} (𝓤 : URA M) (H : Heap 𝓤) (A : Atoms 𝓤) (W : Given
         use2 W (later (‵ (MutSlice (named 1) κ₁ S .own x₂ (s₂ ∷ [])) ⊛ ‵ (flft κ₁ q₁))) (shared-back S κ₁ (ν ∷ []) q₁ γ₂ b₂ o₂ 𝓤 H A W (named 1) (named 0) ys room₂) $ await ! tt $
         split ! $
         move ! (2 ∷ 4 ∷ 3 ∷ []) $
-        use3 W (later (‵ (here u32 N l₇ (zs .1 .0)))) (local-back 𝓤 H A W u32 N l₇ (μ ∷ []) ε (zs .1 .0)) $ await ! tt $
-        rewrite ! 0 (λ (u : List ℕ). ‵ (here u32 N l₇ u)) (e-load) refl $
+        use3 W (later (‵ (here u32 N l₈ (zs .1 .0)))) (local-back 𝓤 H A W u32 N l₈ (μ ∷ []) ε (zs .1 .0)) $ await ! tt $
+        rewrite ! 0 (λ (u : List ℕ). ‵ (here u32 N l₈ u)) (e-load) refl $
         -- ---- the borrow of the head is opened, and stays open; fresh_rows(*head, .., &mut table, ..)
         move ! (5 ∷ 6 ∷ 4 ∷ []) $
         opens ! tt R {h = h} b₀ o₀ (λ vs. spelt ! R (Is R) (shows 𝓤 H A R) (LL.vals T.the-type T′.the-laws) (LL.tells T.the-type T′.the-laws) fullShare h vs b₀ o₀ $
         move ! (1 ∷ []) $
         peeks ! R (Is R) (shows 𝓤 H A R) h (LL.vals T.the-type T′.the-laws h) (λ was.
         drop ! $
-        assigns ! (of-opd ! (load ! (from ! (hop ! (look ! 60 refl) (stop !))) (look-raw ! 0 refl))) (from ! (stop !)) (init ! 31 refl (LL.lawful T.the-type T′.the-laws 𝓤 H A W .typed h _ was .0)) $
-        forget ! 45 refl $
-        assigns ! (of-opd ! (load ! (from ! (fld ! refl (stop !))) (look-in ! 56 (sub ! 1 refl (whole !))))) (from ! (stop !)) (init ! 45 refl (tt, record { fits = room₂ .0 })) $
-        assigns ! (addr ! (from ! (stop !))) (from ! (stop !)) (init ! 29 refl (tt, tt)) $
-        assigns ! (agg ! (and-then ! (load ! (from ! (stop !)) (look ! 29 refl)) (and-then ! (big-lit ! (record { fits = lit< tt })) (no-more !)))) (from ! (stop !)) (init ! 27 refl (tt, (tt, (record { fits = lit< tt }, tt)))) $
-        assigns ! (addr ! (from ! (fld ! refl (hop ! (look-in ! 54 (sub ! 0 refl (whole !))) (stop !))))) (from ! (stop !)) (init ! 25 refl (tt, tt)) $
-        assigns ! (agg ! (and-then ! (load ! (from ! (stop !)) (look ! 25 refl)) (and-then ! (load ! (from ! (fld ! refl (stop !))) (look-in ! 54 (sub ! 1 refl (whole !)))) (no-more !)))) (from ! (stop !)) (init ! 23 refl (tt, (tt, (record { fits = room₃ .0 }, tt)))) $
-        assigns ! (addr ! (from ! (fld ! refl (hop ! (look-in ! 52 (sub ! 0 refl (whole !))) (stop !))))) (from ! (stop !)) (init ! 21 refl (tt, tt)) $
-        assigns ! (agg ! (and-then ! (load ! (from ! (stop !)) (look ! 21 refl)) (and-then ! (load ! (from ! (fld ! refl (stop !))) (look-in ! 52 (sub ! 1 refl (whole !)))) (no-more !)))) (from ! (stop !)) (init ! 19 refl (tt, (tt, (record { fits = room₄ .0 }, tt)))) $
+        assigns ! (of-opd ! (load ! (from ! (hop ! (look ! 67 refl) (stop !))) (look-raw ! 0 refl))) (from ! (stop !)) (init ! 36 refl (LL.lawful T.the-type T′.the-laws 𝓤 H A W .typed h _ was .0)) $
+        forget ! 50 refl $
+        assigns ! (of-opd ! (load ! (from ! (fld ! refl (stop !))) (look-in ! 63 (sub ! 1 refl (whole !))))) (from ! (stop !)) (init ! 50 refl (tt, record { fits = room₂ .0 })) $
+        assigns ! (addr ! (from ! (stop !))) (from ! (stop !)) (init ! 34 refl (tt, tt)) $
+        assigns ! (agg ! (and-then ! (load ! (from ! (stop !)) (look ! 34 refl)) (and-then ! (big-lit ! (record { fits = lit< tt })) (no-more !)))) (from ! (stop !)) (init ! 32 refl (tt, (tt, (record { fits = lit< tt }, tt)))) $
+        assigns ! (addr ! (from ! (fld ! refl (hop ! (look-in ! 61 (sub ! 0 refl (whole !))) (stop !))))) (from ! (stop !)) (init ! 30 refl (tt, tt)) $
+        assigns ! (agg ! (and-then ! (load ! (from ! (stop !)) (look ! 30 refl)) (and-then ! (load ! (from ! (fld ! refl (stop !))) (look-in ! 61 (sub ! 1 refl (whole !)))) (no-more !)))) (from ! (stop !)) (init ! 28 refl (tt, (tt, (record { fits = room₃ .0 }, tt)))) $
+        assigns ! (addr ! (from ! (fld ! refl (hop ! (look-in ! 59 (sub ! 0 refl (whole !))) (stop !))))) (from ! (stop !)) (init ! 26 refl (tt, tt)) $
+        assigns ! (agg ! (and-then ! (load ! (from ! (stop !)) (look ! 26 refl)) (and-then ! (load ! (from ! (fld ! refl (stop !))) (look-in ! 59 (sub ! 1 refl (whole !)))) (no-more !)))) (from ! (stop !)) (init ! 24 refl (tt, (tt, (record { fits = room₄ .0 }, tt)))) $
+        assigns ! (addr ! (from ! (fld ! refl (hop ! (look-in ! 57 (sub ! 0 refl (whole !))) (stop !))))) (from ! (stop !)) (init ! 22 refl (tt, tt)) $
+        assigns ! (agg ! (and-then ! (load ! (from ! (stop !)) (look ! 22 refl)) (and-then ! (load ! (from ! (fld ! refl (stop !))) (look-in ! 57 (sub ! 1 refl (whole !)))) (no-more !)))) (from ! (stop !)) (init ! 20 refl (tt, (tt, (record { fits = room₅ .0 }, tt)))) $
         lft-new ! tt (λ ν₂.
         move ! (5 ∷ []) $
-        use1 W (later (some (λ (ε₂ : GName). ‵ (MutSlice (named 0) (ν₂ ∷ []) u32 .own (at-list l₇ ε₂ (full ys)) (sliceVal (l₇, 0) N ∷ [])) ⊛ ‵ (flent (ν₂ ∷ []) (Held u32 N l₇ 0 ε₂))))) (lends-local 𝓤 H A W u32 N l₇ (named 0) (ν₂ ∷ []) (full ys) n-room) $ await ! tt $
+        use1 W (later (some (λ (ε₂ : GName). ‵ (MutSlice (named 0) (ν₂ ∷ []) u32 .own (at-list l₈ ε₂ (full ys)) (sliceVal (l₈, 0) N ∷ [])) ⊛ ‵ (flent (ν₂ ∷ []) (Held u32 N l₈ 0 ε₂))))) (lends-local 𝓤 H A W u32 N l₈ (named 0) (ν₂ ∷ []) (full ys) n-room) $ await ! tt $
         pick ! (λ ε₂.
         split ! $
         move ! (10 ∷ []) $
-        use1 W (‵ (ShrSlice (named 4) κ₄ u8 .own x₅ (s₅ ∷ [])) ⊛ ‵ (ShrSlice (named 4) κ₄ u8 .own x₅ (s₅ ∷ []))) (shr-slice-copy 𝓤 H A W (named 4) κ₄ u8 .twice x₅ (s₅ ∷ [])) $
+        use1 W (‵ (ShrSlice (named 5) κ₅ u8 .own x₆ (s₆ ∷ [])) ⊛ ‵ (ShrSlice (named 5) κ₅ u8 .own x₆ (s₆ ∷ []))) (shr-slice-copy 𝓤 H A W (named 5) κ₅ u8 .twice x₆ (s₆ ∷ [])) $
         split ! $
         move ! (4 ∷ 11 ∷ []) $
         join ! $
         nothing ! $
         move ! (2 ∷ 0 ∷ []) $
+        fjoin ! $
+        move ! (11 ∷ 0 ∷ []) $
         fjoin ! $
         move ! (11 ∷ 0 ∷ []) $
         fjoin ! $
@@ -449,18 +474,18 @@ module _ {M : Type 1} (𝓤 : URA M) (H : Heap 𝓤) (A : Atoms 𝓤) (W : Given
         owned ! R (Is R) ((LL.makes T.the-type T′.the-plain) 𝓤 H A) h _ was $
         fjoin ! $
         move ! (1 ∷ 0 ∷ []) $
-        use2 W (raw (Co 𝓤 H A at-mem run .pre (to-core l₇ ν₂ ε₂))) (goes-core small l₇ ν₂ ε₂) $
-        -- context: [call; own-slab; ltable; hcell; hobor; hobs; hauth; own-branches; tk1; _26; _25; _24; _23; _22; _21; _20; _19; _18; _17; _16; _15; _14; _13; _12; _11; _10; _9; _8; _6; _5; _4; _3; _2; _1; _0]
-        calls-at ! fm (Co 𝓤 H A at-mem run) known-core (to-core l₇ ν₂ ε₂) (and-then ! (load ! (from ! (stop !)) (look ! 29 refl)) (and-then ! (load ! (from ! (stop !)) (look ! 56 refl)) (and-then ! (load ! (from ! (stop !)) (look ! 43 refl)) (and-then ! (load ! (from ! (stop !)) (look ! 25 refl)) (and-then ! (load ! (from ! (stop !)) (look ! 21 refl)) (and-then ! (load ! (from ! (stop !)) (look ! 17 refl)) (and-then ! (load ! (from ! (stop !)) (look ! 48 refl)) (no-more !)))))))) (λ w₂.
-        use1 W (later (some (λ (r : Made). ((‵ (flft (ν₂ ∷ []) fullShare) ⊛ ‵ (flft κ₂ q₂) ⊛ ‵ (flft κ₃ q₃) ⊛ ‵ (flft κ₄ q₄) ⊛ ‵ ftrue) ⊛ ‵ (O.the-row .own r (w₂ ∷ []))) ⊛ raw (ensured 𝓤 H A co.ended (co.clauses 𝓤 H A at-mem run) (ν₂ ∷ [], (κ₂, (κ₃, (κ₄, tt)))) (h, (size, (length ys, (at-list l₇ ε₂ (full ys), (x₃, (x₄, (x₅, tt))))))) tt r)))) (id⊢ 𝓤 _) $ await ! tt $
+        use2 W (raw (Co 𝓤 H A at-mem run .pre (to-core l₈ ν₂ ε₂))) (goes-core small l₈ ν₂ ε₂) $
+        -- context: [call; own-slab; ltable; hcell; hobor; hobs; hauth; own-branches; tk1; _29; _28; _27; _26; _25; _24; _23; _22; _21; _20; _19; _18; _17; _16; _15; _14; _13; _12; _11; _10; _9; _7; _6; _5; _4; _3; _2; _1; _0]
+        calls-at ! fm (Co 𝓤 H A at-mem run) known-core (to-core l₈ ν₂ ε₂) (and-then ! (load ! (from ! (stop !)) (look ! 33 refl)) (and-then ! (load ! (from ! (stop !)) (look ! 62 refl)) (and-then ! (load ! (from ! (stop !)) (look ! 47 refl)) (and-then ! (load ! (from ! (stop !)) (look ! 29 refl)) (and-then ! (load ! (from ! (stop !)) (look ! 25 refl)) (and-then ! (load ! (from ! (stop !)) (look ! 21 refl)) (and-then ! (load ! (from ! (stop !)) (look ! 17 refl)) (and-then ! (load ! (from ! (stop !)) (look ! 52 refl)) (no-more !))))))))) (λ w₂.
+        use1 W (later (some (λ (r : Made). ((‵ (flft (ν₂ ∷ []) fullShare) ⊛ ‵ (flft κ₂ q₂) ⊛ ‵ (flft κ₃ q₃) ⊛ ‵ (flft κ₄ q₄) ⊛ ‵ (flft κ₅ q₅) ⊛ ‵ ftrue) ⊛ ‵ (O.the-row .own r (w₂ ∷ []))) ⊛ raw (ensured 𝓤 H A co.ended (co.clauses 𝓤 H A at-mem run) (ν₂ ∷ [], (κ₂, (κ₃, (κ₄, (κ₅, tt))))) (h, (size, (length ys, (at-list l₈ ε₂ (full ys), (x₃, (x₄, (x₅, (x₆, tt)))))))) tt r)))) (id⊢ 𝓤 _) $ await ! tt $
         pick ! (λ r.
         split ! $
         move ! (1 ∷ []) $
-        use1 W (some (λ (zs₂ : Unit {0} × (Unit {0} × (Unit {0} × (List ℕ × (List ℕ × (List ℕ × (Unit {0} × Unit {0}))))))). ‵ (lasts co.ended (ν₂ ∷ [], (κ₂, (κ₃, (κ₄, tt)))) (h, (size, (length ys, (at-list l₇ ε₂ (full ys), (x₃, (x₄, (x₅, tt))))))) zs₂) ⊛ raw (fact 𝓤 (Did r (zs₂ .1 .1 .1 .0) (zs₂ .1 .1 .1 .1 .0) (zs₂ .1 .1 .1 .1 .1 .0))))) (id⊢ 𝓤 _) $
+        use1 W (some (λ (zs₂ : Unit {0} × (Unit {0} × (Unit {0} × (List ℕ × (List ℕ × (List ℕ × (List ℕ × (Unit {0} × Unit {0})))))))). ‵ (lasts co.ended (ν₂ ∷ [], (κ₂, (κ₃, (κ₄, (κ₅, tt))))) (h, (size, (length ys, (at-list l₈ ε₂ (full ys), (x₃, (x₄, (x₅, (x₆, tt)))))))) zs₂) ⊛ raw (fact 𝓤 (Did r (zs₂ .1 .1 .1 .0) (zs₂ .1 .1 .1 .1 .0) (zs₂ .1 .1 .1 .1 .1 .0) (zs₂ .1 .1 .1 .1 .1 .1 .0))))) (id⊢ 𝓤 _) $
         pick ! (λ zs₂.
         split ! $
         move ! (1 ∷ []) $
-        heard ! (Did r (zs₂ .1 .1 .1 .0) (zs₂ .1 .1 .1 .1 .0) (zs₂ .1 .1 .1 .1 .1 .0)) (λ did.
+        heard ! (Did r (zs₂ .1 .1 .1 .0) (zs₂ .1 .1 .1 .1 .0) (zs₂ .1 .1 .1 .1 .1 .0) (zs₂ .1 .1 .1 .1 .1 .1 .0)) (λ did.
         fsplit ! $
         drop ! $
         fsplit ! $
@@ -483,43 +508,48 @@ module _ {M : Type 1} (𝓤 : URA M) (H : Heap 𝓤) (A : Atoms 𝓤) (W : Given
         feqL ! (λ same-pt.
         move ! (1 ∷ []) $
         fsplit ! $
+        fsplit ! $
+        move ! (1 ∷ []) $
+        feqL ! (λ same-nt.
+        move ! (1 ∷ []) $
+        fsplit ! $
         drop ! $
         drop ! $
-        move ! (3 ∷ []) $
+        move ! (4 ∷ []) $
         split ! $
         move ! (1 ∷ []) $
         peeks ! O.the-row (Is O.the-row) (shows 𝓤 H A O.the-row) r (w₂ ∷ []) (λ is.
         drop ! $
-        land ! (from ! (stop !)) (init ! 48 refl (LL.lawful O.the-type O′.the-laws 𝓤 H A W .typed r _ is .0)) $
-        rewrite ! 48 (λ (u : Val). ‵ (fat fullShare O′.mir l₈ 0 u)) (ap only (LL.tells O.the-type O′.the-laws r _ is)) refl $
+        land ! (from ! (stop !)) (init ! 53 refl (LL.lawful O.the-type O′.the-laws 𝓤 H A W .typed r _ is .0)) $
+        rewrite ! 53 (λ (u : Val). ‵ (fat fullShare O′.mir l₉ 0 u)) (ap only (LL.tells O.the-type O′.the-laws r _ is)) refl $
         split ! $
         lft-end ! tt $
-        move ! (0 ∷ 6 ∷ 4 ∷ []) $
-        use3 W (later (‵ (here u32 N l₇ (zs₂ .1 .1 .1 .0)))) (local-back 𝓤 H A W u32 N l₇ (ν₂ ∷ []) ε₂ (zs₂ .1 .1 .1 .0)) $ await ! tt $
+        move ! (0 ∷ 7 ∷ 5 ∷ []) $
+        use3 W (later (‵ (here u32 N l₈ (zs₂ .1 .1 .1 .0)))) (local-back 𝓤 H A W u32 N l₈ (ν₂ ∷ []) ε₂ (zs₂ .1 .1 .1 .0)) $ await ! tt $
         -- ---- store_rows(branches, &table)
-        assigns ! (addr ! (from ! (fld ! refl (hop ! (look-in ! 56 (sub ! 0 refl (whole !))) (stop !))))) (from ! (stop !)) (init ! 17 refl (tt, tt)) $
-        assigns ! (agg ! (and-then ! (load ! (from ! (stop !)) (look ! 17 refl)) (and-then ! (load ! (from ! (fld ! refl (stop !))) (look-in ! 56 (sub ! 1 refl (whole !)))) (no-more !)))) (from ! (stop !)) (init ! 15 refl (tt, (tt, (record { fits = room₂ .0 }, tt)))) $
-        assigns ! (addr ! (from ! (stop !))) (from ! (stop !)) (init ! 13 refl (tt, tt)) $
-        assigns ! (agg ! (and-then ! (load ! (from ! (stop !)) (look ! 13 refl)) (and-then ! (big-lit ! (record { fits = lit< tt })) (no-more !)))) (from ! (stop !)) (init ! 11 refl (tt, (tt, (record { fits = lit< tt }, tt)))) $
+        assigns ! (addr ! (from ! (fld ! refl (hop ! (look-in ! 63 (sub ! 0 refl (whole !))) (stop !))))) (from ! (stop !)) (init ! 18 refl (tt, tt)) $
+        assigns ! (agg ! (and-then ! (load ! (from ! (stop !)) (look ! 18 refl)) (and-then ! (load ! (from ! (fld ! refl (stop !))) (look-in ! 63 (sub ! 1 refl (whole !)))) (no-more !)))) (from ! (stop !)) (init ! 16 refl (tt, (tt, (record { fits = room₂ .0 }, tt)))) $
+        assigns ! (addr ! (from ! (stop !))) (from ! (stop !)) (init ! 14 refl (tt, tt)) $
+        assigns ! (agg ! (and-then ! (load ! (from ! (stop !)) (look ! 14 refl)) (and-then ! (big-lit ! (record { fits = lit< tt })) (no-more !)))) (from ! (stop !)) (init ! 12 refl (tt, (tt, (record { fits = lit< tt }, tt)))) $
         lft-new ! tt (λ ν₃.
         move ! (1 ∷ []) $
-        use1 W (later (some (λ (ε₃ : GName). ‵ (ShrSlice (named 1) (ν₃ ∷ []) u32 .own (at-list l₇ ε₃ (zs₂ .1 .1 .1 .0)) (sliceVal (l₇, 0) N ∷ [])) ⊛ ‵ (flent (ν₃ ∷ []) (here u32 N l₇ (zs₂ .1 .1 .1 .0)))))) (lends-local-shr 𝓤 H A W u32 N l₇ (named 1) (ν₃ ∷ []) (zs₂ .1 .1 .1 .0) n-room) $ await ! tt $
+        use1 W (later (some (λ (ε₃ : GName). ‵ (ShrSlice (named 1) (ν₃ ∷ []) u32 .own (at-list l₈ ε₃ (zs₂ .1 .1 .1 .0)) (sliceVal (l₈, 0) N ∷ [])) ⊛ ‵ (flent (ν₃ ∷ []) (here u32 N l₈ (zs₂ .1 .1 .1 .0)))))) (lends-local-shr 𝓤 H A W u32 N l₈ (named 1) (ν₃ ∷ []) (zs₂ .1 .1 .1 .0) n-room) $ await ! tt $
         pick ! (λ ε₃.
         split ! $
         nothing ! $
         move ! (3 ∷ 0 ∷ []) $
         join ! $
-        move ! (12 ∷ 0 ∷ []) $
+        move ! (13 ∷ 0 ∷ []) $
         join ! $
-        move ! (0 ∷ 11 ∷ 1 ∷ []) $
-        use3 W (raw (St 𝓤 H A at-mem run .pre (to-store ys small 𝓤 H A W at-mem run κ₁ q₁ b₂ o₂ γ₂ l₇ (zs₂ .1 .1 .1 .0) ν₃ ε₃))) (goes-store ys small 𝓤 H A W at-mem run κ₁ q₁ b₂ o₂ γ₂ l₇ (zs₂ .1 .1 .1 .0) same-table ν₃ ε₃) $
-        -- context: [call; ltable; tkrest; fin-pt; fin-rt; own-slab; hcell; hobor; hobs; hauth; _26; _25; _24; _23; _22; _21; _20; _19; _18; _17; _16; _15; _14; _13; _12; _11; _10; _9; _8; _6; _5; _4; _3; _2; _1; _0]
-        calls-at ! fm (St 𝓤 H A at-mem run) known-store (to-store ys small 𝓤 H A W at-mem run κ₁ q₁ b₂ o₂ γ₂ l₇ (zs₂ .1 .1 .1 .0) ν₃ ε₃) (and-then ! (load ! (from ! (stop !)) (look ! 14 refl)) (and-then ! (load ! (from ! (stop !)) (look ! 10 refl)) (no-more !))) (λ w₃.
-        use1 W (later (some (λ (v₃ : Unit {0}). ((‵ (flft κ₁ q₁) ⊛ ‵ (flft (ν₃ ∷ []) fullShare) ⊛ ‵ ftrue) ⊛ ‵ (unit .own v₃ (w₃ ∷ []))) ⊛ raw (ensured 𝓤 H A st.ended (st.clauses 𝓤 H A at-mem run) (κ₁, (ν₃ ∷ [], tt)) (x₂, (at-list l₇ ε₃ (zs₂ .1 .1 .1 .0), tt)) tt v₃)))) (id⊢ 𝓤 _) $ await ! tt $
+        move ! (0 ∷ 12 ∷ 1 ∷ []) $
+        use3 W (raw (St 𝓤 H A at-mem run .pre (to-store ys small 𝓤 H A W at-mem run κ₁ q₁ b₂ o₂ γ₂ l₈ (zs₂ .1 .1 .1 .0) ν₃ ε₃))) (goes-store ys small 𝓤 H A W at-mem run κ₁ q₁ b₂ o₂ γ₂ l₈ (zs₂ .1 .1 .1 .0) same-table ν₃ ε₃) $
+        -- context: [call; ltable; tkrest; fin-nt; fin-pt; fin-rt; own-slab; hcell; hobor; hobs; hauth; _29; _28; _27; _26; _25; _24; _23; _22; _21; _20; _19; _18; _17; _16; _15; _14; _13; _12; _11; _10; _9; _7; _6; _5; _4; _3; _2; _1; _0]
+        calls-at ! fm (St 𝓤 H A at-mem run) known-store (to-store ys small 𝓤 H A W at-mem run κ₁ q₁ b₂ o₂ γ₂ l₈ (zs₂ .1 .1 .1 .0) ν₃ ε₃) (and-then ! (load ! (from ! (stop !)) (look ! 15 refl)) (and-then ! (load ! (from ! (stop !)) (look ! 11 refl)) (no-more !))) (λ w₃.
+        use1 W (later (some (λ (v₃ : Unit {0}). ((‵ (flft κ₁ q₁) ⊛ ‵ (flft (ν₃ ∷ []) fullShare) ⊛ ‵ ftrue) ⊛ ‵ (unit .own v₃ (w₃ ∷ []))) ⊛ raw (ensured 𝓤 H A st.ended (st.clauses 𝓤 H A at-mem run) (κ₁, (ν₃ ∷ [], tt)) (x₂, (at-list l₈ ε₃ (zs₂ .1 .1 .1 .0), tt)) tt v₃)))) (id⊢ 𝓤 _) $ await ! tt $
         pick ! (λ v₃.
         split ! $
         move ! (1 ∷ []) $
-        use1 W (some (λ (zs₃ : List Branch × (Unit {0} × Unit {0})). ‵ (lasts st.ended (κ₁, (ν₃ ∷ [], tt)) (x₂, (at-list l₇ ε₃ (zs₂ .1 .1 .1 .0), tt)) zs₃) ⊛ raw (fact 𝓤 (zs₃ .0 ≡ take (length ys) (branchRowsOf (zs₂ .1 .1 .1 .0)))))) (id⊢ 𝓤 _) $
+        use1 W (some (λ (zs₃ : List Branch × (Unit {0} × Unit {0})). ‵ (lasts st.ended (κ₁, (ν₃ ∷ [], tt)) (x₂, (at-list l₈ ε₃ (zs₂ .1 .1 .1 .0), tt)) zs₃) ⊛ raw (fact 𝓤 (zs₃ .0 ≡ take (length ys) (branchRowsOf (zs₂ .1 .1 .1 .0)))))) (id⊢ 𝓤 _) $
         pick ! (λ zs₃.
         split ! $
         move ! (1 ∷ []) $
@@ -535,7 +565,7 @@ module _ {M : Type 1} (𝓤 : URA M) (H : Heap 𝓤) (A : Atoms 𝓤) (W : Given
         move ! (1 ∷ []) $
         peeks ! unit (Is unit) (shows 𝓤 H A unit) v₃ (w₃ ∷ []) (λ is-unit₃.
         drop ! $
-        land ! (from ! (stop !)) (init ! 41 refl (nothing-lawful 𝓤 H A W .typed v₃ _ is-unit₃ .0)) $
+        land ! (from ! (stop !)) (init ! 46 refl (nothing-lawful 𝓤 H A W .typed v₃ _ is-unit₃ .0)) $
         split ! $
         move ! (1 ∷ []) $
         split ! $
@@ -545,97 +575,106 @@ module _ {M : Type 1} (𝓤 : URA M) (H : Heap 𝓤) (A : Atoms 𝓤) (W : Given
         move ! (0 ∷ 3 ∷ []) $
         lent-back ! tt $
         -- ---- the new head is stored, and its borrow is closed
-        assigns ! (of-opd ! (load ! (from ! (fld ! refl (stop !))) (look-in ! 47 (sub ! 0 refl (whole !))))) (from ! (hop ! (look ! 60 refl) (stop !))) (store-raw ! 7 refl (LL.lawful T.the-type T′.the-laws 𝓤 H A W .typed (r .head) _ (head-is r is) .0)) $
-        assigns ! (of-opd ! (load ! (from ! (fld ! refl (stop !))) (look-in ! 47 (sub ! 1 refl (whole !))))) (from ! (stop !)) (init ! 62 refl (uint-lawful 𝓤 H A W w32 .typed (r .refusal) _ (field-is r is) .0)) $
+        assigns ! (of-opd ! (load ! (from ! (fld ! refl (stop !))) (look-in ! 52 (sub ! 0 refl (whole !))))) (from ! (hop ! (look ! 67 refl) (stop !))) (store-raw ! 8 refl (LL.lawful T.the-type T′.the-laws 𝓤 H A W .typed (r .head) _ (head-is r is) .0)) $
+        assigns ! (of-opd ! (load ! (from ! (fld ! refl (stop !))) (look-in ! 52 (sub ! 1 refl (whole !))))) (from ! (stop !)) (init ! 69 refl (uint-lawful 𝓤 H A W w32 .typed (r .refusal) _ (field-is r is) .0)) $
         owned ! R (Is R) ((LL.makes T.the-type T′.the-plain) 𝓤 H A) (r .head) _ (head-is r is) $
-        move ! (8 ∷ 0 ∷ 9 ∷ 10 ∷ 11 ∷ []) $
+        move ! (9 ∷ 0 ∷ 10 ∷ 11 ∷ 12 ∷ []) $
         closes ! tt R (r .head) (T′.lowered (r .head) ∷ []) b₀ o₀ $
         move ! (3 ∷ []) $
-        use1 W (‵ (froom (tyArray (tyInt w32) N) l₇ 0)) (array-out 𝓤 H A W u32 N l₇ (uint-vals w32) (uint-tells w32) (zs₂ .1 .1 .1 .0)) $
-        returns ! (look ! 61 refl) $
-        forget ! 61 refl $
-        forget ! 59 refl $
-        forget ! 57 refl $
-        forget ! 55 refl $
-        forget ! 53 refl $
+        use1 W (‵ (froom (tyArray (tyInt w32) N) l₈ 0)) (array-out 𝓤 H A W u32 N l₈ (uint-vals w32) (uint-tells w32) (zs₂ .1 .1 .1 .0)) $
+        returns ! (look ! 68 refl) $
+        forget ! 68 refl $
+        forget ! 66 refl $
+        forget ! 64 refl $
+        forget ! 62 refl $
+        forget ! 60 refl $
+        forget ! 58 refl $
+        forget ! 56 refl $
+        forget ! 54 refl $
         forget ! 51 refl $
         forget ! 49 refl $
-        forget ! 46 refl $
-        forget ! 44 refl $
-        forget ! 42 refl $
-        forget ! 40 refl $
-        forget ! 38 refl $
-        forget ! 36 refl $
-        forget ! 34 refl $
-        forget ! 32 refl $
-        forget ! 30 refl $
-        forget ! 28 refl $
-        forget ! 26 refl $
-        forget ! 24 refl $
-        forget ! 22 refl $
-        forget ! 20 refl $
-        forget ! 18 refl $
-        forget ! 16 refl $
-        forget ! 14 refl $
-        forget ! 12 refl $
-        forget ! 10 refl $
-        move ! (61 ∷ 62 ∷ []) $
+        forget ! 47 refl $
+        forget ! 45 refl $
+        forget ! 43 refl $
+        forget ! 41 refl $
+        forget ! 39 refl $
+        forget ! 37 refl $
+        forget ! 35 refl $
+        forget ! 33 refl $
+        forget ! 31 refl $
+        forget ! 29 refl $
+        forget ! 27 refl $
+        forget ! 25 refl $
+        forget ! 23 refl $
+        forget ! 21 refl $
+        forget ! 19 refl $
+        forget ! 17 refl $
+        forget ! 15 refl $
+        forget ! 13 refl $
+        forget ! 11 refl $
+        move ! (68 ∷ 69 ∷ []) $
         free1 ! $
-        move ! (59 ∷ 60 ∷ []) $
+        move ! (66 ∷ 67 ∷ []) $
         free1 ! $
-        move ! (57 ∷ 58 ∷ []) $
+        move ! (64 ∷ 65 ∷ []) $
         free1 ! $
-        move ! (55 ∷ 56 ∷ []) $
+        move ! (62 ∷ 63 ∷ []) $
         free1 ! $
-        move ! (53 ∷ 54 ∷ []) $
+        move ! (60 ∷ 61 ∷ []) $
         free1 ! $
-        move ! (51 ∷ 52 ∷ []) $
+        move ! (58 ∷ 59 ∷ []) $
         free1 ! $
-        move ! (49 ∷ 50 ∷ []) $
+        move ! (56 ∷ 57 ∷ []) $
         free1 ! $
-        move ! (0 ∷ 48 ∷ []) $
+        move ! (54 ∷ 55 ∷ []) $
         free1 ! $
-        move ! (45 ∷ 46 ∷ []) $
+        move ! (0 ∷ 53 ∷ []) $
         free1 ! $
-        move ! (43 ∷ 44 ∷ []) $
+        move ! (50 ∷ 51 ∷ []) $
         free1 ! $
-        move ! (41 ∷ 42 ∷ []) $
+        move ! (48 ∷ 49 ∷ []) $
         free1 ! $
-        move ! (39 ∷ 40 ∷ []) $
+        move ! (46 ∷ 47 ∷ []) $
         free1 ! $
-        move ! (37 ∷ 38 ∷ []) $
+        move ! (44 ∷ 45 ∷ []) $
         free1 ! $
-        move ! (35 ∷ 36 ∷ []) $
+        move ! (42 ∷ 43 ∷ []) $
         free1 ! $
-        move ! (33 ∷ 34 ∷ []) $
+        move ! (40 ∷ 41 ∷ []) $
         free1 ! $
-        move ! (31 ∷ 32 ∷ []) $
+        move ! (38 ∷ 39 ∷ []) $
         free1 ! $
-        move ! (29 ∷ 30 ∷ []) $
+        move ! (36 ∷ 37 ∷ []) $
         free1 ! $
-        move ! (27 ∷ 28 ∷ []) $
+        move ! (34 ∷ 35 ∷ []) $
         free1 ! $
-        move ! (25 ∷ 26 ∷ []) $
+        move ! (32 ∷ 33 ∷ []) $
         free1 ! $
-        move ! (23 ∷ 24 ∷ []) $
+        move ! (30 ∷ 31 ∷ []) $
         free1 ! $
-        move ! (21 ∷ 22 ∷ []) $
+        move ! (28 ∷ 29 ∷ []) $
         free1 ! $
-        move ! (19 ∷ 20 ∷ []) $
+        move ! (26 ∷ 27 ∷ []) $
         free1 ! $
-        move ! (17 ∷ 18 ∷ []) $
+        move ! (24 ∷ 25 ∷ []) $
         free1 ! $
-        move ! (15 ∷ 16 ∷ []) $
+        move ! (22 ∷ 23 ∷ []) $
         free1 ! $
-        move ! (13 ∷ 14 ∷ []) $
+        move ! (20 ∷ 21 ∷ []) $
         free1 ! $
-        move ! (11 ∷ 12 ∷ []) $
+        move ! (18 ∷ 19 ∷ []) $
         free1 ! $
-        move ! (9 ∷ 10 ∷ []) $
+        move ! (16 ∷ 17 ∷ []) $
+        free1 ! $
+        move ! (14 ∷ 15 ∷ []) $
+        free1 ! $
+        move ! (12 ∷ 13 ∷ []) $
+        free1 ! $
+        move ! (10 ∷ 11 ∷ []) $
         free1 ! $
         free0 ! $
-        keep ! (0 ∷ 1 ∷ 2 ∷ 3 ∷ 5 ∷ 4 ∷ 7 ∷ 6 ∷ 8 ∷ []) $
-        by ! (exits (r .refusal) (r .head) (zs₃ .0) (zs₂ .1 .1 .1 .1 .0) (zs₂ .1 .1 .1 .1 .1 .0) (stored-said small r (zs₂ .1 .1 .1 .0) (zs₃ .0) (zs₂ .1 .1 .1 .1 .0) (zs₂ .1 .1 .1 .1 .1 .0) did e-rows) same-rows same-rt same-pt (field-is r is)))))))))))))))))))))))))))))))))))))))))))))))))))))))))))
+        keep ! (0 ∷ 1 ∷ 2 ∷ 3 ∷ 5 ∷ 4 ∷ 8 ∷ 7 ∷ 6 ∷ 9 ∷ []) $
+        by ! (exits (r .refusal) (r .head) (zs₃ .0) (zs₂ .1 .1 .1 .1 .0) (zs₂ .1 .1 .1 .1 .1 .0) (zs₂ .1 .1 .1 .1 .1 .1 .0) (stored-said small r (zs₂ .1 .1 .1 .0) (zs₃ .0) (zs₂ .1 .1 .1 .1 .0) (zs₂ .1 .1 .1 .1 .1 .0) (zs₂ .1 .1 .1 .1 .1 .1 .0) did e-rows) same-rows same-rt same-pt same-nt (field-is r is)))))))))))))))))))))))))))))))))))))))))))))))))))))))))))))))
 
     by-test : (t : Bool) → ltb 4096 (length ys) ≡ t → Goal
     by-test true e = many e
@@ -643,14 +682,14 @@ module _ {M : Type 1} (𝓤 : URA M) (H : Heap 𝓤) (A : Atoms 𝓤) (W : Given
 
 module _ {M : Type 1} (𝓤 : URA M) (H : Heap 𝓤) (A : Atoms 𝓤) (W : Given 𝓤 H A) (at-mem : Memory → SProp 𝓤) (run : Routine → Fun 𝓤) (𝓣 : Tables 𝓤 H) (known-load : Triple 𝓤 (𝓣 .C #lent·load-rows) (Ld 𝓤 H A at-mem run)) (known-core : Triple 𝓤 (𝓣 .C #lent·fresh-rows) (Co 𝓤 H A at-mem run)) (known-store : Triple 𝓤 (𝓣 .C #lent·store-rows) (St 𝓤 H A at-mem run)) where
   f-walks : Walks 𝓤 H A f.ended stayed (WpFn 𝓤 H (𝓣 .C) (𝓣 .Λ) code.function) (f.clauses 𝓤 H A at-mem run)
-  f-walks = walked 𝓤 H A f.ended stayed (f.clauses 𝓤 H A at-mem run) (WpFn 𝓤 H (𝓣 .C) (𝓣 .Λ) code.function) (λ κs. (ptr-vals, (uint-vals w32, (slice-vals, (slice-vals, (slice-vals, (slice-vals, tt)))))))
-      (λ κs. (mut-tells (named 0) (κs .0) T.the-row, (uint-tells w32, (mut-slice-tells (named 1) (κs .1 .0) B.the-row, (mut-slice-tells (named 2) (κs .1 .1 .0) u32, (mut-slice-tells (named 3) (κs .1 .1 .1 .0) u32, (shr-slice-tells (named 4) (κs .1 .1 .1 .1 .0) u8, tt)))))))
+  f-walks = walked 𝓤 H A f.ended stayed (f.clauses 𝓤 H A at-mem run) (WpFn 𝓤 H (𝓣 .C) (𝓣 .Λ) code.function) (λ κs. (ptr-vals, (uint-vals w32, (slice-vals, (slice-vals, (slice-vals, (slice-vals, (slice-vals, tt))))))))
+      (λ κs. (mut-tells (named 0) (κs .0) T.the-row, (uint-tells w32, (mut-slice-tells (named 1) (κs .1 .0) B.the-row, (mut-slice-tells (named 2) (κs .1 .1 .0) u32, (mut-slice-tells (named 3) (κs .1 .1 .1 .0) u32, (mut-slice-tells (named 4) (κs .1 .1 .1 .1 .0) u32, (shr-slice-tells (named 5) (κs .1 .1 .1 .1 .1 .0) u8, tt))))))))
       (λ κs qs bounds a g are. via 𝓤 _ (fst∗ 𝓤 _ (emp 𝓤))
-      (by-test 𝓤 H A W at-mem run (κs .0) (κs .1 .0) (κs .1 .1 .0) (κs .1 .1 .1 .0) (κs .1 .1 .1 .1 .0) (qs .0) (qs .1 .0) (qs .1 .1 .0) (qs .1 .1 .1 .0) (qs .1 .1 .1 .1 .0) (a .0 .ptr .0) (a .0 .ptr .1) (a .0 .name) (a .0 .now) (a .1 .0) (a .1 .1 .0 .ptr .0) (a .1 .1 .0 .ptr .1) (a .1 .1 .0 .name) (a .1 .1 .0 .now) (a .1 .1 .1 .0 .ptr .0) (a .1 .1 .1 .0 .ptr .1) (a .1 .1 .1 .0 .name) (a .1 .1 .1 .0 .now) (a .1 .1 .1 .1 .0 .ptr .0) (a .1 .1 .1 .1 .0 .ptr .1) (a .1 .1 .1 .1 .0 .name) (a .1 .1 .1 .1 .0 .now) (a .1 .1 .1 .1 .1 .0 .ptr .0) (a .1 .1 .1 .1 .1 .0 .ptr .1) (a .1 .1 .1 .1 .1 .0 .name) (a .1 .1 .1 .1 .1 .0 .now) (are .1 .0 .1) (are .1 .1 .0 .0 .1) (are .1 .1 .1 .0 .0 .1) (are .1 .1 .1 .1 .0 .0 .1) (are .1 .1 .1 .1 .1 .0 .0 .1) (𝓣 .C) (𝓣 .Λ) (fmOf 𝓤 H (W .laws) 𝓣) known-load known-core known-store (ltb 4096 (length (a .1 .1 .0 .now))) refl))
+      (by-test 𝓤 H A W at-mem run (κs .0) (κs .1 .0) (κs .1 .1 .0) (κs .1 .1 .1 .0) (κs .1 .1 .1 .1 .0) (κs .1 .1 .1 .1 .1 .0) (qs .0) (qs .1 .0) (qs .1 .1 .0) (qs .1 .1 .1 .0) (qs .1 .1 .1 .1 .0) (qs .1 .1 .1 .1 .1 .0) (a .0 .ptr .0) (a .0 .ptr .1) (a .0 .name) (a .0 .now) (a .1 .0) (a .1 .1 .0 .ptr .0) (a .1 .1 .0 .ptr .1) (a .1 .1 .0 .name) (a .1 .1 .0 .now) (a .1 .1 .1 .0 .ptr .0) (a .1 .1 .1 .0 .ptr .1) (a .1 .1 .1 .0 .name) (a .1 .1 .1 .0 .now) (a .1 .1 .1 .1 .0 .ptr .0) (a .1 .1 .1 .1 .0 .ptr .1) (a .1 .1 .1 .1 .0 .name) (a .1 .1 .1 .1 .0 .now) (a .1 .1 .1 .1 .1 .0 .ptr .0) (a .1 .1 .1 .1 .1 .0 .ptr .1) (a .1 .1 .1 .1 .1 .0 .name) (a .1 .1 .1 .1 .1 .0 .now) (a .1 .1 .1 .1 .1 .1 .0 .ptr .0) (a .1 .1 .1 .1 .1 .1 .0 .ptr .1) (a .1 .1 .1 .1 .1 .1 .0 .name) (a .1 .1 .1 .1 .1 .1 .0 .now) (are .1 .0 .1) (are .1 .1 .0 .0 .1) (are .1 .1 .1 .0 .0 .1) (are .1 .1 .1 .1 .0 .0 .1) (are .1 .1 .1 .1 .1 .0 .0 .1) (are .1 .1 .1 .1 .1 .1 .0 .0 .1) (𝓣 .C) (𝓣 .Λ) (fmOf 𝓤 H (W .laws) 𝓣) known-load known-core known-store (ltb 4096 (length (a .1 .1 .0 .now))) refl))
 
   f-meets : Meets 𝓤 H A f.signature (WpFn 𝓤 H (𝓣 .C) (𝓣 .Λ) code.function) (f.spec 𝓤 H A at-mem run)
   f-meets =
-      walk-meets 𝓤 H A f.ended stayed W (goes-ref 𝓤 H A W 5 0 tt (plain (λ _. T.the-row)), (goes-none 𝓤 H A W 5 (λ _. u32) yes (λ κs x f. refl), (goes-gave-slice 𝓤 H A W 5 1 tt (plain (λ _. B.the-row)), (goes-gave-slice 𝓤 H A W 5 2 tt (plain (λ _. u32)), (goes-gave-slice 𝓤 H A W 5 3 tt (plain (λ _. u32)), (goes-none-slice 𝓤 H A W 5 (4 ∷ []) tt (plain (λ _. u8)) yes, tt)))))) (f.clauses 𝓤 H A at-mem run)
+      walk-meets 𝓤 H A f.ended stayed W (goes-ref 𝓤 H A W 6 0 tt (plain (λ _. T.the-row)), (goes-none 𝓤 H A W 6 (λ _. u32) yes (λ κs x f. refl), (goes-gave-slice 𝓤 H A W 6 1 tt (plain (λ _. B.the-row)), (goes-gave-slice 𝓤 H A W 6 2 tt (plain (λ _. u32)), (goes-gave-slice 𝓤 H A W 6 3 tt (plain (λ _. u32)), (goes-gave-slice 𝓤 H A W 6 4 tt (plain (λ _. u32)), (goes-none-slice 𝓤 H A W 6 (5 ∷ []) tt (plain (λ _. u8)) yes, tt))))))) (f.clauses 𝓤 H A at-mem run)
       (WpFn 𝓤 H (𝓣 .C) (𝓣 .Λ) code.function) (WpFn-mono 𝓤 H (W .laws) 𝓣 code.function) f-walks
 
 pub make-fresh-spec : {M : Type 1} → stated.statement M

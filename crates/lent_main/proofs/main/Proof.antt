@@ -104,6 +104,15 @@ cast-line-5 c = search needs
 line-requires-8 : tie.Need-line-requires-8
 line-requires-8 c κs = search needs
 
+slice-aggregate-line-9 : tie.Need-slice-aggregate-line-9
+slice-aggregate-line-9 c = search needs
+
+cast-line-6 : tie.Need-cast-line-6
+cast-line-6 c = search needs
+
+line-requires-9 : tie.Need-line-requires-9
+line-requires-9 c κs = search needs
+
 returns : tie.Need-returns
 returns c = search needs
 
@@ -143,4 +152,7 @@ main-spec =
     slice-aggregate-line-8
     cast-line-5
     line-requires-8
+    slice-aggregate-line-9
+    cast-line-6
+    line-requires-9
     returns)

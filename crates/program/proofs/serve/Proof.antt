@@ -29,14 +29,17 @@ slice-aggregate-serve-fresh-3 c = search needs
 slice-aggregate-serve-fresh-4 : tie.Need-slice-aggregate-serve-fresh-4
 slice-aggregate-serve-fresh-4 c = search needs
 
+slice-aggregate-serve-fresh-5 : tie.Need-slice-aggregate-serve-fresh-5
+slice-aggregate-serve-fresh-5 c = search needs
+
 serve-fresh-requires : tie.Need-serve-fresh-requires
 serve-fresh-requires c κs = search needs
 
-cast-t21 : tie.Need-cast-t21
-cast-t21 c =
+cast-t24 : tie.Need-cast-t24
+cast-t24 c =
     let d = c .before .before .before .before in
-    let f = d .before .before .before in
-    let a = f .before .before .before in
+    let f = d .before .before .before .before in
+    let a = f .before .before .before .before in
     let slab = a .before .before .before in
     let s = slab .before .before .before .before .before in
     omega (arith, stop-byte (programStore (slab .page-slab .result)) (s .args .input .now) (f .serve-fresh .ensures))
@@ -47,8 +50,8 @@ same-length c = search needs
 returns : tie.Need-returns
 returns c =
     let d = c .before .before .before .before in
-    let f = d .before .before .before in
-    let a = f .before .before .before in
+    let f = d .before .before .before .before in
+    let a = f .before .before .before .before in
     let slab = a .before .before .before in
     let s = slab .before .before .before .before .before in
     sends atStart (s .args .input .now) (rw (slab .page-slab .ensures) at (f .serve-fresh .ensures))
@@ -64,7 +67,8 @@ serve-spec =
     slice-aggregate-serve-fresh-2
     slice-aggregate-serve-fresh-3
     slice-aggregate-serve-fresh-4
+    slice-aggregate-serve-fresh-5
     serve-fresh-requires
-    cast-t21
+    cast-t24
     same-length
     returns)

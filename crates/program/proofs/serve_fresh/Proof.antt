@@ -7,26 +7,32 @@ use Rattle.program.proofs.serve_fresh.Tie as tie
 abbrev batch-from-pt2 : tie.After-pt2 → tie.After-batch
 batch-from-pt2 c = c .before .before .before .before .before
 
-abbrev batch-from-slice-known13 : tie.After-slice-known13 → tie.After-batch
-batch-from-slice-known13 c = batch-from-pt2 (c .before .before .before .before .before)
+abbrev batch-from-nt2 : tie.After-nt2 → tie.After-batch
+batch-from-nt2 c = batch-from-pt2 (c .before .before)
 
-abbrev start-from-slice-known : tie.After-slice-known → tie.Start
-start-from-slice-known c = c .before
+abbrev batch-from-slice-known16 : tie.After-slice-known16 → tie.After-batch
+batch-from-slice-known16 c = batch-from-nt2 (c .before .before .before .before .before)
 
-abbrev start-from-slice-known5 : tie.After-slice-known5 → tie.Start
-start-from-slice-known5 c = start-from-slice-known (c .before .before .before .before .before)
+abbrev start-from-slice-known3 : tie.After-slice-known3 → tie.Start
+start-from-slice-known3 c = c .before .before .before
+
+abbrev start-from-make-arg : tie.After-make-arg → tie.Start
+start-from-make-arg c = start-from-slice-known3 (c .before .before .before .before .before)
 
 abbrev start-from-make : tie.After-make → tie.Start
-start-from-make c = start-from-slice-known5 (c .before .before .before .before .before)
+start-from-make c = start-from-make-arg (c .before .before .before .before .before)
 
-abbrev make-from-rt : tie.After-rt → tie.After-make
-make-from-rt c = c .before .before .before
+abbrev make-from-pt : tie.After-pt → tie.After-make
+make-from-pt c = c .before .before .before .before .before
 
-abbrev make-from-batch-arg : tie.After-batch-arg → tie.After-make
-make-from-batch-arg c = make-from-rt (c .before .before .before .before .before)
+abbrev make-from-head : tie.After-head → tie.After-make
+make-from-head c = make-from-pt (c .before .before .before .before)
+
+abbrev make-from-batch-arg2 : tie.After-batch-arg2 → tie.After-make
+make-from-batch-arg2 c = make-from-head (c .before .before)
 
 abbrev make-from-batch : tie.After-batch → tie.After-make
-make-from-batch c = make-from-batch-arg (c .before .before .before .before .before)
+make-from-batch c = make-from-batch-arg2 (c .before .before .before .before .before)
 
 make-requires : tie.Need-make-requires
 make-requires c κs = search needs
@@ -49,12 +55,15 @@ same-length-4 c = search needs
 same-length-5 : tie.Need-same-length-5
 same-length-5 c = search needs
 
+same-length-6 : tie.Need-same-length-6
+same-length-6 c = search needs
+
 returns : tie.Need-returns
 returns c =
-    let b = (batch-from-slice-known13 c) in
+    let b = (batch-from-slice-known16 c) in
     let m = (make-from-batch b) in
     let s = (start-from-make m) in
-    leaves (s .pre) (m .make .ensures) (record { branches = m .make .kept .1 .1 .0; records = m .make .kept .1 .1 .1 .0 }) (s .args .input .now) (b .batch .ensures)
+    leaves (s .pre) (m .make .ensures) (record { branches = m .make .kept .1 .1 .0; records = m .make .kept .1 .1 .1 .0; names = m .make .kept .1 .1 .1 .1 .1 .0 }) (s .args .input .now) (b .batch .ensures)
 
 pub serve-fresh-spec : {M : Type 1} → statement M
 serve-fresh-spec =
@@ -67,4 +76,5 @@ serve-fresh-spec =
     same-length-3
     same-length-4
     same-length-5
+    same-length-6
     returns)

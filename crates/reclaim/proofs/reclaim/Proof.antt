@@ -6,26 +6,20 @@ use borrow.Author.Needs.{needs}
 use Rattle.reclaim.proofs.reclaim.Statement.{statement}
 use Rattle.reclaim.proofs.reclaim.Tie as tie
 
-abbrev start-from-slice-known : tie.After-slice-known → tie.Start
-start-from-slice-known c = c .before
+abbrev start-from-struct-known : tie.After-struct-known → tie.Start
+start-from-struct-known c = c .before .before .before .before .before
 
 abbrev start-from-refused : tie.After-refused → tie.Start
-start-from-refused c = start-from-slice-known (c .before .before .before .before .before)
-
-abbrev start-from-slice-known2 : tie.After-slice-known2 → tie.Start
-start-from-slice-known2 c = c .before .before
+start-from-refused c = start-from-struct-known (c .before .before)
 
 abbrev start-from-else2 : tie.Else2 → tie.Start
-start-from-else2 c = start-from-slice-known2 (c .before .before .before .before .before)
-
-abbrev start-from-slice-known3 : tie.After-slice-known3 → tie.Start
-start-from-slice-known3 c = c .before .before .before
+start-from-else2 c = start-from-struct-known (c .before .before .before)
 
 abbrev start-from-refused2 : tie.After-refused2 → tie.Start
-start-from-refused2 c = start-from-slice-known3 (c .before .before .before .before .before)
+start-from-refused2 c = start-from-struct-known (c .before .before .before .before)
 
 abbrev else2-from-branch-bytes : tie.After-branch-bytes → tie.Else2
-else2-from-branch-bytes c = c .before .before .before
+else2-from-branch-bytes c = c .before .before .before .before
 
 abbrev else2-from-rm : tie.After-rm → tie.Else2
 else2-from-rm c = else2-from-branch-bytes (c .before .before .before .before .before)
@@ -81,11 +75,8 @@ else2-from-bm3 c = else2-from-rt (c .before .before .before .before .before)
 abbrev else2-from-slice-known6 : tie.After-slice-known6 → tie.Else2
 else2-from-slice-known6 c = else2-from-bm3 (c .before .before .before)
 
-abbrev else1-from-struct-known2 : tie.After-struct-known2 → tie.Else1
-else1-from-struct-known2 c = c .before
-
 abbrev else1-from-record-bytes : tie.After-record-bytes → tie.Else1
-else1-from-record-bytes c = else1-from-struct-known2 (c .before .before .before .before .before)
+else1-from-record-bytes c = (else2-from-branch-bytes (c .before)) .before .before
 
 abbrev else1-from-mark-all : tie.After-mark-all → tie.Else1
 else1-from-mark-all c = else1-from-record-bytes (c .before .before .before .before .before)
@@ -100,7 +91,7 @@ abbrev else1-from-slice-known6 : tie.After-slice-known6 → tie.Else1
 else1-from-slice-known6 c = else1-from-slice-known5 (c .before .before .before .before .before)
 
 abbrev start-from-record-bytes : tie.After-record-bytes → tie.Start
-start-from-record-bytes c = start-from-else2 (c .before .before .before .before)
+start-from-record-bytes c = start-from-else2 (c .before .before .before .before .before)
 
 abbrev start-from-mark-all : tie.After-mark-all → tie.Start
 start-from-mark-all c = start-from-record-bytes (c .before .before .before .before .before)
@@ -115,10 +106,10 @@ abbrev start-from-slice-known6 : tie.After-slice-known6 → tie.Start
 start-from-slice-known6 c = start-from-slice-known5 (c .before .before .before .before .before)
 
 -- what is at hand where the moment is readable
-ready : (c : tie.Else2) → Ready ((start-from-else2 c) .args .head) ((start-from-else2 c) .args .floor) (now ((start-from-else2 c) .args .bt)) (now ((start-from-else2 c) .args .rt)) (now ((start-from-else2 c) .args .pt))
+ready : (c : tie.Else2) → Ready ((start-from-else2 c) .args .head) ((start-from-else2 c) .args .floor) (now ((start-from-else2 c) .args .bt)) (now ((start-from-else2 c) .args .rt)) (now ((start-from-else2 c) .args .pt)) (now ((start-from-else2 c) .args .nt))
 ready c =
     let s = (start-from-else2 c) in
-    ready-of (s .args .head) (lent (now (s .args .bt)) (now (s .args .rt)) (now (s .args .pt)) (s .pre .others)) (s .args .floor) (s .pre .sound) (omega (arith, c .before .before .if1 .left)) (omega (arith, c .if2 .left))
+    ready-of (s .args .head) (lent (now (s .args .bt)) (now (s .args .rt)) (now (s .args .pt)) (now (s .args .nt)) (s .pre .others)) (s .args .floor) (s .pre .sound) (omega (arith, c .before .before .if1 .left)) (omega (arith, c .if2 .left))
 
 refused-requires : tie.Need-refused-requires
 refused-requires c κs = search needs
@@ -126,7 +117,7 @@ refused-requires c κs = search needs
 returns : tie.Need-returns
 returns c =
     let s = (start-from-refused c) in
-    λ t. rw (c .refused .ensures) (refuses-8 (s .args .head) (lent (now (s .args .bt)) (now (s .args .rt)) (now (s .args .pt)) t) (s .args .floor) (omega (arith, c .before .if1 .taken)))
+    λ t. rw (c .refused .ensures) (refuses-8 (s .args .head) (lent (now (s .args .bt)) (now (s .args .rt)) (now (s .args .pt)) (now (s .args .nt)) t) (s .args .floor) (omega (arith, c .before .if1 .taken)))
 
 refused-requires-2 : tie.Need-refused-requires-2
 refused-requires-2 c κs = search needs
@@ -135,13 +126,16 @@ returns-2 : tie.Need-returns-2
 returns-2 c =
     let s = (start-from-refused2 c) in
     λ t. rw (c .refused2 .ensures)
-    (refuses-9 (s .args .head) (lent (now (s .args .bt)) (now (s .args .rt)) (now (s .args .pt)) t) (s .args .floor) (omega (arith, c .before .before .before .if1 .left)) (omega (arith, c .before .if2 .taken)))
+    (refuses-9 (s .args .head) (lent (now (s .args .bt)) (now (s .args .rt)) (now (s .args .pt)) (now (s .args .nt)) t) (s .args .floor) (omega (arith, c .before .before .before .if1 .left)) (omega (arith, c .before .if2 .taken)))
 
 cast-n : tie.Need-cast-n
 cast-n c = search needs
 
 cast-nr : tie.Need-cast-nr
 cast-nr c = search needs
+
+cast-k : tie.Need-cast-k
+cast-k c = search needs
 
 branch-bytes-requires : tie.Need-branch-bytes-requires
 branch-bytes-requires c κs = search needs
@@ -158,8 +152,8 @@ slice-aggregate-mark-all-2 c = search needs
 mark-all-requires : tie.Need-mark-all-requires
 mark-all-requires c κs =
     let r = ready (else2-from-rm c) in (
-      (r .branch-room, r .branch-count, r .branch-some, r .record-room, omega (arith, r .branch-count, c .before .before .before .before .before .branch-bytes .ensures .long), omega (arith, r .record-count, c .before .before .before .before .record-bytes .ensures .long)),
-      (r .line, (r .readable, (r .ascend, r .placed))),
+      (r .branch-room, r .branch-count, r .branch-some, r .record-room, r .name-room, r .name-count, omega (arith, r .branch-count, c .before .before .before .before .before .branch-bytes .ensures .long), omega (arith, r .record-count, c .before .before .before .before .record-bytes .ensures .long)),
+      (r .line, (r .readable, (r .named-held, (r .ascend, r .placed)))),
     )
 
 slice-aggregate-close-records : tie.Need-slice-aggregate-close-records
@@ -178,26 +172,26 @@ close-branches-requires c κs =
     let r = ready (else2-from-bm3 c) in
     (r .branch-room, omega (arith, r .branch-count, (mark-all-from-bm3 c) .mark-all .ensures .0 .long, (branch-bytes-from-bm3 c) .branch-bytes .ensures .long))
 
-cast-t35 : tie.Need-cast-t35
-cast-t35 c =
+cast-t37 : tie.Need-cast-t37
+cast-t37 c =
     let r = ready (else2-from-slice-known6 c) in
     let cb = c .before .before .close-branches .ensures in
     omega (arith, count-branches cb (r .branch-room), r .branch-count)
 
-cast-t36 : tie.Need-cast-t36
-cast-t36 c =
+cast-t38 : tie.Need-cast-t38
+cast-t38 c =
     let r = ready (else2-from-slice-known6 c) in
     let cr = (close-records-from-slice-known6 c) .close-records .ensures in
     omega (arith, count-records cr (r .record-room), r .record-count)
 
-sub-t37 : tie.Need-sub-t37
-sub-t37 c =
+sub-t39 : tie.Need-sub-t39
+sub-t39 c =
     let r = ready (else2-from-slice-known6 c) in
     let cr = (close-records-from-slice-known6 c) .close-records .ensures in
     omega (arith, count-records cr (r .record-room), r .record-count)
 
-cast-t35-2 : tie.Need-cast-t35-2
-cast-t35-2 c = search needs
+cast-t37-2 : tie.Need-cast-t37-2
+cast-t37-2 c = search needs
 
 same-length : tie.Need-same-length
 same-length c = search needs
@@ -214,7 +208,7 @@ returns-3 c =
     let cr = (close-records-from-slice-known6 c) .close-records .ensures in
     let s = (start-from-slice-known6 c) in
     let m = (mark-all-from-slice-known6 c) .mark-all .ensures in
-    reclaims (s .args .head) (now (s .args .bt)) (now (s .args .rt)) (now (s .args .pt)) _ _ _ (s .args .floor) _ _ (s .pre) (omega (arith, (else1-from-slice-known6 c) .if1 .left)) (omega (arith, (else2-from-slice-known6 c) .if2 .left)) (m .0) (m .1) cr ((close-records-from-slice-known6 c) .close-records .kept .0) cb (c .before .before .close-branches .kept .0)
+    reclaims (s .args .head) (now (s .args .bt)) (now (s .args .rt)) (now (s .args .pt)) (now (s .args .nt)) _ _ _ (s .args .floor) _ _ (s .pre) (omega (arith, (else1-from-slice-known6 c) .if1 .left)) (omega (arith, (else2-from-slice-known6 c) .if2 .left)) (m .0) (m .1) cr ((close-records-from-slice-known6 c) .close-records .kept .0) cb (c .before .before .close-branches .kept .0)
 
 pub reclaim-spec : {M : Type 1} → statement M
 reclaim-spec =
@@ -226,6 +220,7 @@ reclaim-spec =
     returns-2
     cast-n
     cast-nr
+    cast-k
     branch-bytes-requires
     record-bytes-requires
     slice-aggregate-mark-all
@@ -235,10 +230,10 @@ reclaim-spec =
     close-records-requires
     slice-aggregate-close-branches
     close-branches-requires
-    cast-t35
-    cast-t36
-    sub-t37
-    cast-t35-2
+    cast-t37
+    cast-t38
+    sub-t39
+    cast-t37-2
     same-length
     same-length-2
     same-length-3

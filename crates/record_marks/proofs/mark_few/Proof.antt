@@ -1,4 +1,4 @@
--- `record_marks::mark_few` meets its contract: rooms of 512 events are enough.
+-- `record_marks::mark_few` meets its contract: rooms of 544 events are enough.
 use native.Mathlib.Omega.{arith}
 use borrow.Author.Needs.{needs}
 use Rattle.record_marks.proofs.Giving.{blank-of}

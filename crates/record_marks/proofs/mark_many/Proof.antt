@@ -1,4 +1,4 @@
--- `record_marks::mark_many` meets its contract: rooms of 8,192 events are enough.
+-- `record_marks::mark_many` meets its contract: rooms of 8,224 events are enough.
 use native.Mathlib.Omega.{arith}
 use borrow.Author.Needs.{needs}
 use Rattle.record_marks.proofs.Giving.{blank-of}

@@ -9,8 +9,11 @@ use Rattle.rows.specs.View.{Tables, tables}
 use Rattle.soundness.proofs.in_range.Statement.{statement}
 use Rattle.soundness.proofs.in_range.Tie as tie
 
+abbrev start-from-shared-slice-known : tie.After-shared-slice-known → tie.Start
+start-from-shared-slice-known c = c .before
+
 abbrev start-from-sizes-allowed : tie.After-sizes-allowed → tie.Start
-start-from-sizes-allowed c = c .before .before .before .before .before
+start-from-sizes-allowed c = start-from-shared-slice-known (c .before .before .before .before .before)
 
 abbrev start-from-then1 : tie.Then1 → tie.Start
 start-from-then1 c = start-from-sizes-allowed (c .before)
@@ -39,8 +42,11 @@ start-from-then5 c = start-from-sizes-allowed ((else1-from-else2 (c .before .bef
 abbrev start-from-else5 : tie.Else5 → tie.Start
 start-from-else5 c = start-from-sizes-allowed (sizes-allowed-from-else5 c)
 
+abbrev start-from-then6 : tie.Then6 → tie.Start
+start-from-then6 c = start-from-else5 (c .before .before)
+
 abbrev lent : tie.Start → Tables
-lent s = tables (now (s .args .bt)) (now (s .args .rt)) (now (s .args .pt)) (now (s .args .slab))
+lent s = tables (now (s .args .bt)) (now (s .args .rt)) (now (s .args .pt)) (now (s .args .nt)) (now (s .args .slab))
 
 sizes-allowed-requires : tie.Need-sizes-allowed-requires
 sizes-allowed-requires c κs = search needs
@@ -78,9 +84,15 @@ returns-5 c =
 
 returns-6 : tie.Need-returns-6
 returns-6 c =
-    let s = start-from-else5 c in
-    let l = lengths→ (sym ((sizes-allowed-from-else5 c) .sizes-allowed .ensures) ∙ not-false _ ((else1-from-else5 c) .if1 .left)) in
-    sym (→ranges (s .args .head) (lent s) (omega arith) (record { lengths = l; counted-low = omega arith; counted-high = omega arith; records-counted = omega arith; floor-now = omega arith }))
+    let s = start-from-then6 c in
+    ranges-no (s .args .head) (lent s) (omega arith) (λ z. omega (arith, z))
+
+returns-7 : tie.Need-returns-7
+returns-7 c =
+    let d = c .before .before in
+    let s = start-from-else5 d in
+    let l = lengths→ (sym ((sizes-allowed-from-else5 d) .sizes-allowed .ensures) ∙ not-false _ ((else1-from-else5 d) .if1 .left)) in
+    sym (→ranges (s .args .head) (lent s) (omega arith) (record { lengths = l; counted-low = omega arith; counted-high = omega arith; records-counted = omega arith; names-counted = omega arith; floor-now = omega arith }))
 
 pub in-range-spec : {M : Type 1} → statement M
 in-range-spec =
@@ -94,4 +106,5 @@ in-range-spec =
     cast-nr
     returns-4
     returns-5
-    returns-6)
+    returns-6
+    returns-7)

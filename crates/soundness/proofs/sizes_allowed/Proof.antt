@@ -41,8 +41,14 @@ mul-if11 c = search needs
 returns-11 : tie.Need-returns-11
 returns-11 c = lengths-no (λ z. omega (arith, z))
 
+mul-if12 : tie.Need-mul-if12
+mul-if12 c = search needs
+
 returns-12 : tie.Need-returns-12
-returns-12 c = sym (→lengths (omega arith))
+returns-12 c = lengths-no (λ z. omega (arith, z))
+
+returns-13 : tie.Need-returns-13
+returns-13 c = sym (→lengths (omega arith))
 
 pub sizes-allowed-spec : {M : Type 1} → statement M
 sizes-allowed-spec =
@@ -60,4 +66,6 @@ sizes-allowed-spec =
     returns-10
     mul-if11
     returns-11
-    returns-12)
+    mul-if12
+    returns-12
+    returns-13)

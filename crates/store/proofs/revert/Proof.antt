@@ -10,6 +10,9 @@ use Rattle.rows.proofs.branch_at.Reads as branch-at-reads
 use Rattle.rows.proofs.set_branch.Reads as set-branch-reads
 use Rattle.store.proofs.revert_refusal.Reads as revert-refusal-reads
 
+abbrev start : tie.After-revert-refusal → tie.Start
+start c = c .before .before .before .before .before
+
 abbrev else1-from-set-branch-arg : tie.After-set-branch-arg → tie.Else1
 else1-from-set-branch-arg c = c .before .before .before .before
 
@@ -28,14 +31,14 @@ same-length c = search needs
 returns : tie.Need-returns
 returns c =
     let g = c .before .before in
-    let s = g .before .before .before .before in
-    revert-kept (s .args .head) (now (s .args .bt)) (s .args .m) (g .revert-refusal .result) _ (g .before .branch-rows .ensures) (g .revert-refusal .ensures) (c .refused .result) (c .refused .ensures) (c .before .if1 .taken)
+    let s = start g in
+    revert-kept (s .args .head) (now (s .args .bt)) (now (s .args .nt)) (s .args .m) (g .revert-refusal .result) _ (g .before .branch-rows .ensures) (g .revert-refusal .ensures) (c .refused .result) (c .refused .ensures) (c .before .if1 .taken)
 
-grows : (c : tie.Else1) → Growing (c .before .before .before .before .before .args .head) (now (c .before .before .before .before .before .args .bt))
+grows : (c : tie.Else1) → Growing (start (c .before) .args .head) (now (start (c .before) .args .bt))
 grows c =
     let g = c .before in
-    let s = g .before .before .before .before in
-    revert-grows (s .args .head) (now (s .args .bt)) (s .args .m) (g .revert-refusal .result) _ (g .before .branch-rows .ensures) (g .revert-refusal .ensures) (c .if1 .left)
+    let s = start g in
+    revert-grows (s .args .head) (now (s .args .bt)) (now (s .args .nt)) (s .args .m) (g .revert-refusal .result) _ (g .before .branch-rows .ensures) (g .revert-refusal .ensures) (c .if1 .left)
 
 add-next : tie.Need-add-next
 add-next c = omega (arith, grows c .later)
@@ -58,10 +61,10 @@ set-branch-requires c κs = search needs
 set-branch-requires-2 : tie.Need-set-branch-requires-2
 set-branch-requires-2 c κs =
     let e = else1-from-set-branch-arg2 c in
-    omega (arith, grows e .room, set-length branch-kind (c .before .before .before .set-branch .ensures), branch-count (now (e .before .before .before .before .before .args .bt)))
+    omega (arith, grows e .room, set-length branch-kind (c .before .before .before .set-branch .ensures), branch-count (now (start (e .before) .args .bt)))
 
-add-t23 : tie.Need-add-t23
-add-t23 c = search needs
+add-t24 : tie.Need-add-t24
+add-t24 c = search needs
 
 accepted-requires : tie.Need-accepted-requires
 accepted-requires c κs = search needs
@@ -76,8 +79,8 @@ returns-2 c =
     let i = b1 .before .before in
     let e = i .before .before .before in
     let g = e .before in
-    let s = g .before .before .before .before in
-    revert-done (s .args .head) (now (s .args .bt)) (s .args .m) (g .revert-refusal .result) _ (g .before .branch-rows .ensures) (g .revert-refusal .ensures) (e .if1 .left) (c .accepted .result) _ _ (i .branch-at .result) (c .accepted .ensures)
+    let s = start g in
+    revert-done (s .args .head) (now (s .args .bt)) (now (s .args .nt)) (s .args .m) (g .revert-refusal .result) _ (g .before .branch-rows .ensures) (g .revert-refusal .ensures) (e .if1 .left) (c .accepted .result) _ _ (i .branch-at .result) (c .accepted .ensures)
     (i .branch-at .ensures) (b1 .set-branch .ensures) (b2 .set-branch2 .ensures)
 
 branch-rows-requires : tie.Need-branch-rows-requires
@@ -99,7 +102,7 @@ revert-spec =
     sub-set-branch
     set-branch-requires
     set-branch-requires-2
-    add-t23
+    add-t24
     accepted-requires
     same-length-2
     returns-2)

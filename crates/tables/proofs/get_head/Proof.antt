@@ -25,6 +25,9 @@ array-read-t17 c = search needs
 array-read-t20 : tie.Need-array-read-t20
 array-read-t20 c = search needs
 
+array-read-t23 : tie.Need-array-read-t23
+array-read-t23 c = search needs
+
 returns : tie.Need-returns
 returns c = ap headOf (c .before .get-all .ensures)
 
@@ -39,4 +42,5 @@ get-head-spec =
     array-read-t14
     array-read-t17
     array-read-t20
+    array-read-t23
     returns)

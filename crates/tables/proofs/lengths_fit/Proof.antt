@@ -25,9 +25,12 @@ returns-7 : tie.Need-returns-7
 returns-7 c = lengths-no (λ z. omega (arith, z))
 
 returns-8 : tie.Need-returns-8
-returns-8 c = →lengths (omega arith)
+returns-8 c = lengths-no (λ z. omega (arith, z))
+
+returns-9 : tie.Need-returns-9
+returns-9 c = →lengths (omega arith)
 
 pub lengths-fit-spec : {M : Type 1} → statement M
 lengths-fit-spec =
     tie.close
-    (tie.spec returns returns-2 returns-3 returns-4 returns-5 returns-6 returns-7 returns-8)
+    (tie.spec returns returns-2 returns-3 returns-4 returns-5 returns-6 returns-7 returns-8 returns-9)

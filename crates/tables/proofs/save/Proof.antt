@@ -2,15 +2,6 @@ use borrow.Author.Needs.{needs}
 use Rattle.tables.proofs.save.Statement.{statement}
 use Rattle.tables.proofs.save.Tie as tie
 
-abbrev put-all2-from-records : tie.After-records → tie.After-put-all2
-put-all2-from-records c = c .before
-
-abbrev put-all2-from-slice-known6 : tie.After-slice-known6 → tie.After-put-all2
-put-all2-from-slice-known6 c = put-all2-from-records (c .before .before .before .before .before)
-
-abbrev put-all-from-slice-known6 : tie.After-slice-known6 → tie.After-put-all
-put-all-from-slice-known6 c = (put-all2-from-slice-known6 c) .before .before .before .before
-
 put-all-requires : tie.Need-put-all-requires
 put-all-requires c κs = search needs
 
@@ -19,6 +10,9 @@ put-all-requires-2 c κs = search needs
 
 put-all-requires-3 : tie.Need-put-all-requires-3
 put-all-requires-3 c κs = search needs
+
+put-all-requires-4 : tie.Need-put-all-requires-4
+put-all-requires-4 c κs = search needs
 
 same-length : tie.Need-same-length
 same-length c = search needs
@@ -29,12 +23,19 @@ same-length-2 c = search needs
 same-length-3 : tie.Need-same-length-3
 same-length-3 c = search needs
 
+same-length-4 : tie.Need-same-length-4
+same-length-4 c = search needs
+
 returns : tie.Need-returns
 returns c =
+    let f = c .before .before in
+    let g = f .before .before .before .before in
+    let h = g .before .before .before .before in
     record {
-      branches = (put-all-from-slice-known6 c) .put-all .ensures;
-      records = (put-all2-from-slice-known6 c) .put-all2 .ensures;
-      places = c .before .before .put-all3 .ensures;
+      branches = h .before .before .before .before .put-all .ensures;
+      records = h .put-all2 .ensures;
+      places = g .put-all3 .ensures;
+      names = f .put-all4 .ensures;
     }
 
 pub save-spec : {M : Type 1} → statement M
@@ -44,7 +45,9 @@ save-spec =
     put-all-requires
     put-all-requires-2
     put-all-requires-3
+    put-all-requires-4
     same-length
     same-length-2
     same-length-3
+    same-length-4
     returns)

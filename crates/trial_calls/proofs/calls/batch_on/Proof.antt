@@ -23,44 +23,61 @@ at-most-requires-5 c κs = tt
 at-most-requires-6 : tie.Need-at-most-requires-6
 at-most-requires-6 c κs = tt
 
+at-most-requires-7 : tie.Need-at-most-requires-7
+at-most-requires-7 c κs = tt
+
 slice-relend-prefix-batch : tie.Need-slice-relend-prefix-batch
 slice-relend-prefix-batch c = search needs
 
 slice-aggregate-batch : tie.Need-slice-aggregate-batch
 slice-aggregate-batch c =
-    sym (length-take-le _ _ (c .before .before .before .before .before .before .at-most .ensures))
+    let d = c .before .before .before .before in
+    sym (length-take-le _ _ (d .before .before .before .at-most .ensures))
 
 slice-relend-prefix-batch-2 : tie.Need-slice-relend-prefix-batch-2
 slice-relend-prefix-batch-2 c = search needs
 
 slice-aggregate-batch-2 : tie.Need-slice-aggregate-batch-2
 slice-aggregate-batch-2 c =
-    sym (length-take-le _ _ (c .before .before .before .before .before .before .at-most2 .ensures))
+    let d = c .before .before .before .before in
+    sym (length-take-le _ _ (d .before .before .before .at-most2 .ensures))
 
 slice-relend-prefix-batch-3 : tie.Need-slice-relend-prefix-batch-3
 slice-relend-prefix-batch-3 c = search needs
 
 slice-aggregate-batch-3 : tie.Need-slice-aggregate-batch-3
 slice-aggregate-batch-3 c =
-    sym (length-take-le _ _ (c .before .before .before .before .before .before .at-most3 .ensures))
+    let d = c .before .before .before .before in
+    sym (length-take-le _ _ (d .before .before .before .at-most3 .ensures))
 
 slice-relend-prefix-batch-4 : tie.Need-slice-relend-prefix-batch-4
 slice-relend-prefix-batch-4 c = search needs
 
 slice-aggregate-batch-4 : tie.Need-slice-aggregate-batch-4
 slice-aggregate-batch-4 c =
-    sym (length-take-le _ _ (c .before .before .before .before .before .before .at-most4 .ensures))
-
-slice-aggregate-batch-5 : tie.Need-slice-aggregate-batch-5
-slice-aggregate-batch-5 c =
-    sym (length-take-le _ _ (c .before .before .before .before .before .before .at-most5 .ensures))
+    let d = c .before .before .before .before in
+    sym (length-take-le _ _ (d .before .before .before .at-most4 .ensures))
 
 slice-relend-prefix-batch-5 : tie.Need-slice-relend-prefix-batch-5
 slice-relend-prefix-batch-5 c = search needs
 
+slice-aggregate-batch-5 : tie.Need-slice-aggregate-batch-5
+slice-aggregate-batch-5 c =
+    let d = c .before .before .before .before in
+    sym (length-take-le _ _ (d .before .before .before .at-most5 .ensures))
+
 slice-aggregate-batch-6 : tie.Need-slice-aggregate-batch-6
 slice-aggregate-batch-6 c =
-    sym (length-take-le _ _ (c .before .before .before .before .before .before .at-most6 .ensures))
+    let d = c .before .before .before .before in
+    sym (length-take-le _ _ (d .before .before .before .at-most6 .ensures))
+
+slice-relend-prefix-batch-6 : tie.Need-slice-relend-prefix-batch-6
+slice-relend-prefix-batch-6 c = search needs
+
+slice-aggregate-batch-7 : tie.Need-slice-aggregate-batch-7
+slice-aggregate-batch-7 c =
+    let d = c .before .before .before .before in
+    sym (length-take-le _ _ (d .before .before .before .at-most7 .ensures))
 
 batch-requires : tie.Need-batch-requires
 batch-requires c κs = tt
@@ -80,6 +97,9 @@ same-length-4 c = search needs
 same-length-5 : tie.Need-same-length-5
 same-length-5 c = search needs
 
+same-length-6 : tie.Need-same-length-6
+same-length-6 c = search needs
+
 returns : tie.Need-returns
 returns c = tt
 
@@ -93,6 +113,7 @@ batch-on-spec =
     at-most-requires-4
     at-most-requires-5
     at-most-requires-6
+    at-most-requires-7
     slice-relend-prefix-batch
     slice-aggregate-batch
     slice-relend-prefix-batch-2
@@ -101,13 +122,16 @@ batch-on-spec =
     slice-aggregate-batch-3
     slice-relend-prefix-batch-4
     slice-aggregate-batch-4
-    slice-aggregate-batch-5
     slice-relend-prefix-batch-5
+    slice-aggregate-batch-5
     slice-aggregate-batch-6
+    slice-relend-prefix-batch-6
+    slice-aggregate-batch-7
     batch-requires
     same-length
     same-length-2
     same-length-3
     same-length-4
     same-length-5
+    same-length-6
     returns)

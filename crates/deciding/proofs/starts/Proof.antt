@@ -8,8 +8,8 @@ use Rattle.rows.specs.Rows.{branchRowsOf}
 use Rattle.rows.proofs.Laws.{branch-count}
 use Rattle.deciding.proofs.Keeping.{Gathering, gather-start, gather-old, gather-new, gather-end}
 use borrow.Author.Needs.{needs}
-use Rattle.deciding.proofs.deciding.Statement.{statement}
-use Rattle.deciding.proofs.deciding.Tie as tie
+use Rattle.deciding.proofs.starts.Statement.{statement}
+use Rattle.deciding.proofs.starts.Tie as tie
 
 abbrev Inv-loop : tie.InvT-loop
 Inv-loop bt n floor table₀ c₀ i₀ table c i = Gathering (branchRowsOf bt) n floor i c table₀ table
@@ -68,8 +68,8 @@ same-length c = rw length-set at (c .before .loop .inv .long)
 returns : tie.Need-returns Inv-loop μ-loop
 returns c = let s = c .before .before .before .before in gather-end (c .before .loop .inv) (c .loop-test .left) (omega (arith, s .pre, length-set (now (s .args .table)) 0 (s .args .floor)))
 
-pub deciding-spec : {M : Type 1} → statement M
-deciding-spec =
+pub starts-spec : {M : Type 1} → statement M
+starts-spec =
     tie.close
     (tie.spec
     Inv-loop

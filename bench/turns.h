@@ -1,0 +1,142 @@
+/* Batches timed in turns: the library, plain C and, where BEFORE is defined, an earlier library, each on the same store, with the
+   answers and all six areas compared byte for byte after every batch. Whoever includes it says before it BATCH_BYTES and
+   ANSWERS_BYTES, the most bytes of a batch and of its answers, and SLAB_STAYS where no batch writes to the slab. */
+#include <time.h>
+#include "before.h"
+
+#ifdef BEFORE
+enum { LIBRARY, PLAIN, EARLIER, CONTENDERS };
+static batch_function *const contenders[CONTENDERS] = {kizmoolet_batch, plain_batch, earlier_batch};
+#else
+enum { LIBRARY, PLAIN, CONTENDERS };
+static batch_function *const contenders[CONTENDERS] = {kizmoolet_batch, plain_batch};
+#endif
+
+#define MOST_REPETITIONS 201
+static double times[CONTENDERS][MOST_REPETITIONS];
+
+/* The store that a batch finds, the one it works on, the one that the library left the first time; the same for the answers. */
+static struct areas found, used, left;
+static uint8_t batch[BATCH_BYTES];
+static uint8_t answers[ANSWERS_BYTES], answers_left[ANSWERS_BYTES];
+static size_t batch_len;
+static uint64_t answered, answer_bytes, answered_left, answer_bytes_left;
+
+static void copy_tables(struct areas *to, const struct areas *from)
+{
+    memcpy(to->branches, from->branches, from->branches_len);
+    memcpy(to->records, from->records, from->records_len);
+    memcpy(to->places, from->places, from->places_len);
+    memcpy(to->names, from->names, sizeof to->names);
+    memcpy(to->head, from->head, sizeof to->head);
+}
+
+static int same_areas(const struct areas *a, const struct areas *b)
+{
+    return memcmp(a->head, b->head, sizeof a->head) == 0 && memcmp(a->branches, b->branches, a->branches_len) == 0
+        && memcmp(a->records, b->records, a->records_len) == 0 && memcmp(a->places, b->places, a->places_len) == 0
+        && memcmp(a->names, b->names, sizeof a->names) == 0 && memcmp(a->slab, b->slab, a->slab_len) == 0;
+}
+
+static void free_areas(struct areas *s)
+{
+    free(s->branches);
+    free(s->records);
+    free(s->places);
+    free(s->slab);
+}
+
+static void free_stores(void)
+{
+    free_areas(&found);
+    free_areas(&used);
+    free_areas(&left);
+}
+
+static double seconds(void)
+{
+    struct timespec t;
+    clock_gettime(CLOCK_PROCESS_CPUTIME_ID, &t);
+    return (double)t.tv_sec + 1e-9 * (double)t.tv_nsec;
+}
+
+/* One batch on the store as it was found. */
+static double time_batch(batch_function *f)
+{
+    uint64_t taken;
+#ifndef SLAB_STAYS
+    memcpy(used.slab, found.slab, found.slab_len);
+#endif
+    copy_tables(&used, &found);
+    memset(answers, 0xA5, sizeof answers);
+    double began = seconds();
+    uint32_t stop = f(used.head, sizeof used.head, used.branches, used.branches_len, used.records, used.records_len, used.places,
+        used.places_len, used.names, sizeof used.names, used.slab, used.slab_len, batch, batch_len, answers, sizeof answers,
+        &answered, &taken, &answer_bytes);
+    double took = seconds() - began;
+    if (stop != 0 || taken != batch_len)
+        fail("a batch was not carried out to its end");
+    return took;
+}
+
+/* What the first batch left, to compare the others with. */
+static void keep_first(void)
+{
+    copy_tables(&left, &used);
+    memcpy(left.slab, used.slab, used.slab_len);
+    memcpy(answers_left, answers, sizeof answers);
+    answered_left = answered;
+    answer_bytes_left = answer_bytes;
+}
+
+static void compare(void)
+{
+    if (answered != answered_left || answer_bytes != answer_bytes_left || memcmp(answers, answers_left, sizeof answers) != 0)
+        fail("two contenders give different answers");
+    if (!same_areas(&used, &left))
+        fail("two contenders leave different stores");
+}
+
+/* The first n contenders take turns; what is short is run several times a turn. */
+static void take_turns(int n, int repetitions)
+{
+    double once = time_batch(contenders[LIBRARY]);
+    int runs = once < 5e-4 ? (int)(5e-4 / (once + 1e-6)) + 1 : 1;
+    compare();
+    for (int r = 0; r < repetitions; r++)
+        for (int turn = 0; turn < n; turn++) {
+            int c = (turn + r) % n;
+            times[c][r] = 0;
+            for (int run = 0; run < runs; run++) {
+                times[c][r] += time_batch(contenders[c]) / runs;
+                compare();
+            }
+        }
+}
+
+static int by_value(const void *x, const void *y)
+{
+    double a = *(const double *)x, b = *(const double *)y;
+    return a < b ? -1 : a > b;
+}
+
+static double median_of(int c, int repetitions)
+{
+    qsort(times[c], (size_t)repetitions, sizeof times[c][0], by_value);
+    return times[c][repetitions / 2];
+}
+
+/* Three digits of a time. */
+static void print_time(double t)
+{
+    double x = t * (t < 1e-3 ? 1e6 : 1e3);
+    printf(" %.*f %s |", x < 10 ? 2 : x < 100 ? 1 : 0, x, t < 1e-3 ? "µs" : "ms");
+}
+
+static int repetitions_of(int argc, char **argv)
+{
+    int repetitions = argc > 1 ? atoi(argv[1]) : 41;
+    if (repetitions < 1 || repetitions > MOST_REPETITIONS || repetitions % 2 == 0)
+        fail("repetitions are an odd number, 1 to 201");
+    return repetitions;
+}
