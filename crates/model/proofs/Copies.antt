@@ -95,8 +95,9 @@ module _ (s c : Store) (k : Copy s c) where
       let whole : reach (s .placeRows) ≤ length (s .placeRows) = reach-length (s .placeRows) in
       let long : length (take (slabInUse s) (s .slab)) ≡ slabInUse s = length-take-le (slabInUse s) (s .slab) (omega (arith, h .sizes .allowed .slab)) in
       let fits : 256 * r .place + 256 ≤ length (take (slabInUse s) (s .slab)) = omega arith in
-      sym (page-front (c .slab) (slabInUse s) (r .place) (rw (k .slab) fits))
-      ∙ (ap (λ (x : List ℕ). pageAt x (r .place)) (k .slab) ∙ page-front (s .slab) (slabInUse s) (r .place) fits)
+      let same : take (slabInUse s) (c .slab) ≡ take (slabInUse s) (s .slab) = k .slab in
+      sym (page-front (c .slab) (slabInUse s) (r .place) (rw same fits))
+      ∙ (ap (λ (x : List ℕ). pageAt x (r .place)) same ∙ page-front (s .slab) (slabInUse s) (r .place) fits)
 
   copy-inv : (p : Reference) → Inv s p → Inv c p
   unfolding lookup
