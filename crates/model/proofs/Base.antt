@@ -170,6 +170,17 @@ module _ {A : Type 0} where
       let ih : (z : A) × (z ∈ xs) × (y ≡ f z) = map-mem f y xs m in
       (ih .0, inr (ih .1), ih .2)
 
+  pub map-same : {B : Type 0} (f g : A → B) (xs : List A) → ((x : A) → x ∈ xs → f x ≡ g x) → map f xs ≡ map g xs
+  map-same f g [] h = refl
+  map-same f g (x ∷ xs) h = rw (h x (inl refl), map-same f g xs (λ y m. h y (inr m)))
+
+  map-reverseAux : {B : Type 0} (f : A → B) (xs ys : List A) → reverseAux (map f xs) (map f ys) ≡ map f (reverseAux xs ys)
+  map-reverseAux f [] ys = refl
+  map-reverseAux f (x ∷ xs) ys = map-reverseAux f xs (x ∷ ys)
+
+  pub map-reverse : {B : Type 0} (f : A → B) (xs : List A) → reverse (map f xs) ≡ map f (reverse xs)
+  map-reverse f xs = map-reverseAux f xs []
+
   pub getD-mem : (xs : List A) (i : ℕ) (z : A) → i < length xs → getD xs i z ∈ xs
   getD-mem [] i z l = absurd (omega arith)
   getD-mem (x ∷ xs) zero z l = inl refl

@@ -1,7 +1,7 @@
 pub mod Base
 pub mod Latest
 pub mod Ancestry
-pub mod AncestryKept
+pub mod Settling
 pub mod Names
 pub mod Places
 pub mod Pages
