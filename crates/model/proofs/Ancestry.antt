@@ -12,7 +12,7 @@ use Rattle.model.specs.declared.Branch.{Branch}
 use Rattle.model.specs.declared.Record.{Record}
 use Rattle.model.specs.Store.{keep, any, _∈_}
 use Rattle.model.specs.Lookup.{holds, ancestry, orElse, latest, firstFound}
-use Rattle.model.specs.ByNumber.{Link, Chain, Falls, find}
+use Rattle.model.specs.ByNumber.{Link, Chain, SoundRows, Falls, find}
 use Rattle.model.proofs.Base.{case, and→, →and}
 use Rattle.model.proofs.Latest.{orElse→, Within, latest→}
 
@@ -49,6 +49,10 @@ any-head b bs x e = rw e
 pub any-tail : (b : Branch) (bs : List Branch) (x : ℕ) → any (λ d. holds d x) bs ≡ true → any (λ d. holds d x) (b ∷ bs) ≡ true
 unfolding any
 any-tail b bs x e = case (holds b x) (λ d. rw d) (λ d. rw (d, e))
+
+pub chain-of : (floor now : ℕ) (bs : List Branch) → SoundRows floor now bs → Chain floor bs
+chain-of floor now [] h = absurd h
+chain-of floor now (b ∷ bs) h = h .1
 
 pub chain-ordered : (floor : ℕ) (b : Branch) (bs : List Branch) → Chain floor (b ∷ bs) → b .start ≤ b .end
 chain-ordered floor b [] h = h .ordered

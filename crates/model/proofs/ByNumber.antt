@@ -18,7 +18,7 @@ use Rattle.model.specs.Soundness.{used, inUse, precedes}
 use Rattle.model.proofs.Base.{case, reverse-snoc, getD-mem}
 use Rattle.model.proofs.Latest.{Before, precedes→}
 use Rattle.model.specs.ByNumber.{Asc, Link, Chain, SoundRows, Named, branch, entry, newestOf, held, Line, Ascend, Names}
-use Rattle.model.proofs.Ancestry.{chain-ordered}
+use Rattle.model.proofs.Ancestry.{chain-of, chain-ordered}
 use Rattle.model.proofs.Moves.{rows-covered}
 use Rattle.model.proofs.Places.{count, one, count-cons, count-set, named-set, clear}
 
@@ -91,10 +91,6 @@ module _ (floor : ℕ) (bs : List Branch) where
 pub held-by : (floor now m : ℕ) (bs : List Branch) (n : ℕ) → SoundRows floor now (newestOf bs n) → now ≤ open-end → floor ≤ m → m ≤ now → held bs n m ≡ true
 unfolding held
 held-by floor now m bs n h a i j = rows-covered floor now m (newestOf bs n) h a i j
-
-chain-of : (floor now : ℕ) (bs : List Branch) → SoundRows floor now bs → Chain floor bs
-chain-of floor now [] h = absurd h
-chain-of floor now (b ∷ bs) h = h .1
 
 pub rows-line : (floor now : ℕ) (bs : List Branch) (n : ℕ) → n ≤ length bs → SoundRows floor now (newestOf bs n) → Line bs n
 rows-line floor now bs n l h = chain-line floor bs n l (chain-of floor now (newestOf bs n) h)
