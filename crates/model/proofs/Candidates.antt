@@ -13,7 +13,7 @@ use Rattle.model.specs.declared.Record.{Record}
 use Rattle.model.specs.declared.Name.{Name}
 use Rattle.model.specs.Store.{Store, newest, records, names, moments, keep, any, _∈_}
 use Rattle.model.specs.Lookup.{holds, within, orElse, latest, lookup, isAt, readableFrom, someReadable, isGiven}
-use Rattle.model.proofs.Base.{case, or→, same-test, absurd-test, keep-mem, mem-keep, any-mem, mem-any, mem-left, mem-right, mem-append, mem-map, map-mem, someReadable-intro, someReadable-elim, readable-above, readable-named, readable→}
+use Rattle.model.proofs.Base.{case, or→, same-test, absurd-test, keep-mem, mem-keep, any-mem, mem-any, mem-left, mem-right, mem-append, mem-map, map-mem, someReadable-intro, readable-above, readable-named, readable→}
 use Rattle.model.proofs.Latest.{caseOption, Within, within→, →within, not-within, latest-top}
 use Rattle.model.specs.ByNumber.{Asc, Link, Chain, SoundRows, find, Fits, Sound, candidates, deciding}
 use Rattle.model.proofs.Ancestry.{Holds, holds→, →holds, not-holds, held-below, find-hold, find-skip, Below, earlier-below}

@@ -9,7 +9,7 @@ use lib.ListN.{length, getD, set, length-map, List·getD-eq-default}
 use lib.Seq.{getD-set-other}
 use borrow.Author.Tests.{ltb-true, ltb-false}
 use Rattle.model.specs.declared.Record.{Record}
-use Rattle.model.specs.Store.{Store, branches, records, keep, open-end, _∈_}
+use Rattle.model.specs.Store.{Store, branches, records, open-end, _∈_}
 use Rattle.model.specs.Lookup.{readable, isGiven}
 use Rattle.model.specs.Wire.{Request, write, mark, revert, readAt, reclaim, give, withdraw}
 use Rattle.model.specs.Step.{Stepped, firstFree, shifted, before, putIn, inserted, intoFree, standing, doWrite, doMark, branched, doRevert, doRead, reclaimed, doReclaim, step}

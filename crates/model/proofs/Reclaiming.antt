@@ -12,8 +12,7 @@ use lib.Seq.{take-append-seam, length-take-le}
 use borrow.Author.Tests.{ltb-false, eqb-true, eq-eqb}
 use Rattle.model.specs.declared.Branch.{Branch}
 use Rattle.model.specs.declared.Record.{Record}
-use Rattle.model.specs.declared.Name.{Name}
-use Rattle.model.specs.Store.{Store, branches, newest, records, names, moments, keep, any, zero-branch, zero-record, Page, pageOf, foundPage, _∈_}
+use Rattle.model.specs.Store.{Store, branches, newest, records, names, moments, keep, zero-branch, zero-record, Page, pageOf, foundPage, _∈_}
 use Rattle.model.specs.Lookup.{holds, ancestry, lookup, isAt, readableFrom, readable, isGiven}
 use Rattle.model.specs.Wire.{reclaim, accepted}
 use Rattle.model.specs.Step.{unchanged, closedUp, stays, landing, withCut, settled, reclaimed, doReclaim}
@@ -106,6 +105,18 @@ isLeft s m = stays m (moments (names s)) (given s m)
 abbrev pub after : Store → ℕ → Store
 after s m = reclaimed s m (isGiven s m) (isLeft s m)
 
+pub records-after : (s : Store) (m : ℕ) → records (after s m) ≡ given s m
+records-after s m = reclaimed-records s m (isGiven s m) (isLeft s m)
+
+-- every row counted after it is of the four kinds: another cut changes nothing of that
+pub needed-after : (s : Store) (m : ℕ) (b : Branch) → b ∈ branches (after s m) → stays m (moments (names s)) (records (after s m)) b ≡ true
+unfolding settled
+needed-after s m b i =
+    let f : Branch → Branch = λ d. withCut d (landing (isLeft s m) (newest s) (d .cut)) in
+    let d : (c : Branch) × (c ∈ keep (isLeft s m) (branches s)) × (b ≡ f c) =
+    map-mem f b (keep (isLeft s m) (branches s)) (rw (reclaimed-branches s m (isGiven s m) (isLeft s m)) at i) in
+    rw (records-after s m, d .2) (stays-cut m (moments (names s)) (given s m) (d .0) _ ∙ mem-keep (isLeft s m) (d .0) (branches s) (d .1) .1)
+
 -- a record that some read gives
 pub record Given (s : Store) (m : ℕ) (r : Record) : Type 0 where
   pub moment : ℕ
@@ -175,13 +186,10 @@ module _ (s : Store) (m : ℕ) (h : Sound s) (l : s .head .floor ≤ m) (u : m �
   newest-after : newest (after s m) ≡ leftRows κ (newest s)
   newest-after = reclaimed-newest s m (isGiven s m) κ _ chain
 
-  pub records-after : records (after s m) ≡ rs′
-  records-after = reclaimed-records s m (isGiven s m) κ
-
   -- reads at readable moments give what they gave
   pub lookup-after : (a t : ℕ) → readableFrom s m t ≡ true → t ≤ s .head .now → lookup (after s m) a t ≡ lookup s a t
   unfolding lookup
-  lookup-after a t i j = rw (records-after, newest-after) (kept-find a t i j)
+  lookup-after a t i j = rw (records-after s m, newest-after) (kept-find a t i j)
 
   -- the tables stay sound
   pub sound-after : Sound (after s m)
@@ -207,24 +215,16 @@ module _ (s : Store) (m : ℕ) (h : Sound s) (l : s .head .floor ≤ m) (u : m �
             (names-stay _ _ (newest s) _ (names s) (omega arith)
             (λ n i g. held-left κ (newest s) (n .moment) (λ b _ e. named-row b (n .moment) (mem-map (λ x. x .moment) n (names s) i) e) (g .held))
             (h .names));
-        ascends = rw records-after (asc-keep (isGiven s m) (records s) (h .ascends));
+        ascends = rw (records-after s m) (asc-keep (isGiven s m) (records s) (h .ascends));
         fits =
-            rw (records-after, newest-after)
+            rw (records-after s m, newest-after)
             (λ r i.
             let k : (r ∈ records s) × (isGiven s m r ≡ true) = mem-keep (isGiven s m) r (records s) i in
             let f : Fits (s .head .size) (s .head .now) (newest s) r = h .fits r (k .0) in
             record { address = f .address; moment = f .moment; held = held-left κ (newest s) (r .moment) (λ b _ e. record-row b r i e) (f .held) });
-        named = rw records-after (reclaim-named (isGiven s m) (records s) (s .placeRows) (h .named));
+        named = rw (records-after s m) (reclaim-named (isGiven s m) (records s) (s .placeRows) (h .named));
         in-use = reclaim-used (isGiven s m) (records s) (s .placeRows) (h .named) (h .in-use ∙ sym ln);
       }
-
-  -- no other row is counted than those of the four kinds
-  pub needed-after : (b : Branch) → b ∈ branches (after s m) → stays m (moments (names s)) (records (after s m)) b ≡ true
-  unfolding settled
-  needed-after b i =
-      let j : b ∈ map (λ d. withCut d (landing κ (newest s) (d .cut))) (keep κ (branches s)) = rw (reclaimed-branches s m (isGiven s m) κ) at i in
-      let d : (c : Branch) × (c ∈ keep κ (branches s)) × (b ≡ withCut c (landing κ (newest s) (c .cut))) = map-mem _ b (keep κ (branches s)) j in
-      rw (records-after, d .2) (stays-cut m (moments (names s)) rs′ (d .0) _ ∙ mem-keep κ (d .0) (branches s) (d .1) .1)
 
   given-seen : (snaps : ℕ → Snapshot) → Reads s snaps → (r : Record) → isGiven s m r ≡ isSeen (referenceOf s snaps) m (key r)
   unfolding isGiven isSeen
@@ -266,7 +266,7 @@ module _ (s : Store) (snaps : ℕ → Snapshot) (m : ℕ) (h : Sound s) (rd : Re
         now = refl;
         floor = refl;
         names = refl;
-        held = rw (records-after s m h l u) keys;
+        held = rw (records-after s m) keys;
         reads = λ a t i j. ap (foundPage (s .slab)) (lookup-after s m h l u a t i j) ∙ rd a t (lower s m h l u t i) j;
       }
 
@@ -275,13 +275,13 @@ module _ (s : Store) (snaps : ℕ → Snapshot) (m : ℕ) (h : Sound s) (rd : Re
   reclaim-exact =
       record {
         seen =
-            rw (records-after s m h l u)
+            rw (records-after s m)
             (λ r i.
             let k : (r ∈ records s) × (isGiven s m r ≡ true) = mem-keep (isGiven s m) r (records s) i in
             let g : Given s m r = given→ s m h l u r (k .0) (k .1) in
             (g .moment, record { low = g .low; high = g .high }, sym (rd (r .address) (g .moment) (lower s m h l u (g .moment) (g .low)) (g .high)) ∙ ap (foundPage (s .slab)) (g .found)));
         stored = stored-any (after s m) reference reclaim-inv;
-        needed = needed-after s m h l u;
+        needed = needed-after s m;
       }
 
   freed : s .head .records - length (given s m) ≡ length (map key (records s)) - length (keep (isSeen (referenceOf s snaps) m) (map key (records s)))
