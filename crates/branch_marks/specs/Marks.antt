@@ -1,14 +1,13 @@
--- Branches by row number: the branch that holds a moment, the parent of a branch, and the branches that a list of moments needs.
+-- Branches by row number: the branch that holds a moment, and the parent of a branch; tables of numbers.
 use mathlib.Core.Path.{_≡_}
 use mathlib.Core.List.{List}
 use mathlib.Core.Bool.{Bool, true, cond}
 use Prim.Native.Nat.{ℕ, zero, suc, _≤_, _<_}
-use lib.Dec.{eqb}
 use lib.ListN.{length, getD}
 use Rattle.model.specs.declared.Branch.{Branch}
-use Rattle.model.specs.Store.{any, _∈_}
-use Rattle.model.specs.Lookup.{holds, inAncestry}
-use Rattle.model.specs.ByNumber.{branch, newestOf, held}
+use Rattle.model.specs.Store.{_∈_}
+use Rattle.model.specs.Lookup.{holds}
+use Rattle.model.specs.ByNumber.{branch, held}
 
 -- the newest of the first n rows that holds the moment t
 unfoldable pub holder : List Branch → ℕ → ℕ → ℕ
@@ -30,10 +29,6 @@ bit b = cond b 1 0
 pub record Held (bs : List Branch) (n : ℕ) (moments : List ℕ) : Type 0 where
   pub each : (t : ℕ) → t ∈ moments → held bs n t ≡ true
 
--- the branch that starts at x is in the ancestry of one of the moments
-unfoldable pub wanted : List Branch → ℕ → List ℕ → ℕ → Bool
-wanted bs n moments x = any (λ t. inAncestry (newestOf bs n) t x) moments
-
 -- a table whose first n numbers are f 0, f 1, .., the others as they were
 pub record Filled (f : ℕ → ℕ) (n : ℕ) (old new : List ℕ) : Type 0 where
   pub first : (k : ℕ) → k < n → getD new k 0 ≡ f k
@@ -53,11 +48,3 @@ pub record Zeros (n : ℕ) (t : List ℕ) : Type 0 where
 -- the parent: the earlier row that holds the cut; the first row has none, and 0 stands for it
 abbrev pub parentOf : List Branch → ℕ → ℕ
 parentOf bs i = holder bs i (branch bs i .cut)
-
--- the byte of a branch that holds one of the moments
-abbrev pub holderByte : List Branch → ℕ → List ℕ → ℕ → ℕ
-holderByte bs n moments i = bit (any (λ t. eqb (holder bs n t) i) moments)
-
--- the byte of a branch in the ancestry of one of the moments
-abbrev pub keptBranch : List Branch → ℕ → List ℕ → ℕ → ℕ
-keptBranch bs n moments i = bit (wanted bs n moments (branch bs i .start))
