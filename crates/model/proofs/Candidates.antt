@@ -1,4 +1,4 @@
--- Readable moments that decide a reclaim: the floor, each row's start above it, and the named ones. So a program need not try them all.
+-- Readable moments that decide which records a reclaim keeps: the floor, each row's start above it, and the named ones. So a program need not try them all.
 use Prim.Native.Nat.{ℕ, _≤_, _<_}
 use mathlib.Core.Path.{_≡_, refl, sym, _∙_}
 use mathlib.Core.Logic.{_⊎_, inl, inr}

@@ -149,18 +149,15 @@ module _ (s : Store) (m : ℕ) (h : Sound s) (l : s .head .floor ≤ m) (u : m �
   abbrev κ : Branch → Bool
   κ = isLeft s m
 
-  abbrev rs′ : List Record
-  rs′ = given s m
-
   first : (b : Branch) → b .start ≡ 0 → κ b ≡ true
-  first b e = →stays m (moments (names s)) rs′ b (inl e)
+  first b e = →stays m (moments (names s)) (given s m) b (inl e)
 
   late : (b : Branch) → m ≤ b .end → κ b ≡ true
-  late b i = →stays m (moments (names s)) rs′ b (inr (inl i))
+  late b i = →stays m (moments (names s)) (given s m) b (inr (inl i))
 
   -- a row that holds a named moment, a readable moment or a kept record is left
   named-row : (b : Branch) (t : ℕ) → t ∈ moments (names s) → holds b t ≡ true → κ b ≡ true
-  named-row b t i e = →stays m (moments (names s)) rs′ b (inr (inr (inl (t, i, e))))
+  named-row b t i e = →stays m (moments (names s)) (given s m) b (inr (inr (inl (t, i, e))))
 
   readable-row : (b : Branch) (t : ℕ) → readableFrom s m t ≡ true → holds b t ≡ true → κ b ≡ true
   readable-row b t i e =
@@ -169,18 +166,18 @@ module _ (s : Store) (m : ℕ) (h : Sound s) (l : s .head .floor ≤ m) (u : m �
         | inr j ↦ named-row b t j e
       ]
 
-  record-row : (b : Branch) (r : Record) → r ∈ rs′ → holds b (r .moment) ≡ true → κ b ≡ true
-  record-row b r i e = →stays m (moments (names s)) rs′ b (inr (inr (inr (r, i, e))))
+  record-row : (b : Branch) (r : Record) → r ∈ given s m → holds b (r .moment) ≡ true → κ b ≡ true
+  record-row b r i e = →stays m (moments (names s)) (given s m) b (inr (inr (inr (r, i, e))))
 
   chain : Chain (s .head .floor) (newest s)
   chain = chain-of _ _ (newest s) (h .rows)
 
-  kept-find : (a t : ℕ) → readableFrom s m t ≡ true → t ≤ s .head .now → find rs′ a (leftRows κ (newest s)) t ≡ lookup s a t
+  kept-find : (a t : ℕ) → readableFrom s m t ≡ true → t ≤ s .head .now → find (given s m) a (leftRows κ (newest s)) t ≡ lookup s a t
   unfolding lookup
   kept-find a t i j =
       let e : landing κ (newest s) t ≡ t = landing-stays κ (newest s) t (λ b _ e. readable-row b t i e) in
-      ap (find rs′ a (leftRows κ (newest s))) (sym e)
-      ∙ (find-rows κ _ m l first late rs′ a record-row (newest s) t chain (readable-held s h t (lower t i) j)
+      ap (find (given s m) a (leftRows κ (newest s))) (sym e)
+      ∙ (find-rows κ _ m l first late (given s m) a record-row (newest s) t chain (readable-held s h t (lower t i) j)
       ∙ firstFound-keep (isGiven s m) (records s) a (ancestry (newest s) t) (λ r d. →given a t r i j d))
 
   newest-after : newest (after s m) ≡ leftRows κ (newest s)
@@ -200,9 +197,9 @@ module _ (s : Store) (m : ℕ) (h : Sound s) (l : s .head .floor ≤ m) (u : m �
       let rows′ : SoundRows m (s .head .now) (newest (after s m)) = rw newest-after rows in
       let ln : length (records s) ≡ s .head .records = length-records s z in
       let lb : length (branches s) ≡ s .head .branches = length-branches s z in
-      let kr : length rs′ ≤ length (records s) = length-keep (isGiven s m) (records s) in
+      let kr : length (given s m) ≤ length (records s) = length-keep (isGiven s m) (records s) in
       let kb : length (settled κ s) ≤ length (branches s) = length-settled s κ in
-      let cr : length (after s m .recordRows) ≡ length (s .recordRows) = length-closed zero-record rs′ (s .head .records) (s .recordRows) (omega arith) (omega arith) in
+      let cr : length (after s m .recordRows) ≡ length (s .recordRows) = length-closed zero-record (given s m) (s .head .records) (s .recordRows) (omega arith) (omega arith) in
       let cb : length (after s m .branchRows) ≡ length (s .branchRows) = length-closed zero-branch (settled κ s) (s .head .branches) (s .branchRows) (omega arith) (omega arith) in
       let cp : length (after s m .placeRows) ≡ length (s .placeRows) = length-map (s .placeRows) _ in
       let one : 1 ≤ length (settled κ s) =
