@@ -2,20 +2,20 @@
 use Prim.Native.Nat.{ℕ, suc, _-_, _≤_}
 use mathlib.Core.Path.{_≡_, refl, sym, ap, _∙_}
 use mathlib.Core.Logic.{inl, inr}
-use mathlib.Core.List.{List, [], _∷_, _++_, map, reverse}
+use mathlib.Core.List.{List, [], _∷_, _++_, map, reverse, reverse-reverse}
 use mathlib.Core.Option.{Option, some, none}
 use mathlib.Core.Bool.{Bool, true, false≢true}
 use native.Mathlib.Omega.{arith}
 use lib.Dec.{ltb}
 use lib.ListN.{length, drop, replicate, length-append, length-drop, length-map, length-replicate, length-reverse}
 use lib.Seq.{take-append-seam, length-take-le}
-use borrow.Author.Tests.{ltb-false, eqb-true, eq-eqb}
+use borrow.Author.Tests.{ltb-false, le-ltb, eqb-true, eq-eqb}
 use Rattle.model.specs.declared.Branch.{Branch}
 use Rattle.model.specs.declared.Record.{Record}
 use Rattle.model.specs.Store.{Store, branches, newest, records, names, moments, keep, zero-branch, zero-record, Page, pageOf, foundPage, _∈_}
 use Rattle.model.specs.Lookup.{holds, ancestry, lookup, isAt, readableFrom, readable, isGiven}
 use Rattle.model.specs.Wire.{reclaim, accepted}
-use Rattle.model.specs.Step.{unchanged, closedUp, stays, landing, withCut, settled, reclaimed, doReclaim}
+use Rattle.model.specs.Step.{unchanged, closedUp, stays, landing, withCut, settled, reclaimed, doReclaim, step}
 use Rattle.model.specs.Reference.{Pair, Snapshot, Reference, hasMoment, isSeen, accept, feed}
 use Rattle.model.proofs.Base.{case, mem-keep, mem-map, map-mem, map-reverse, length-keep, keep-reverse, someReadable-intro, someReadable-elim, someReadable-same, readable-named, readable→, readable-less}
 use Rattle.model.proofs.Latest.{caseOption, firstFound-keep, asc-unique}
@@ -44,6 +44,9 @@ unfolding newest settled
 settled-newest κ s floor h =
     let f : Branch → Branch = λ b. withCut b (landing κ (newest s) (b .cut)) in
     map-reverse f (keep κ (branches s)) ∙ (ap (map f) (keep-reverse κ (branches s)) ∙ left-map κ floor (newest s) h)
+
+pub settled-left : (κ : Branch → Bool) (s : Store) (floor : ℕ) → Chain floor (newest s) → settled κ s ≡ reverse (leftRows κ (newest s))
+settled-left κ s floor h = sym (reverse-reverse (settled κ s)) ∙ ap reverse (settled-newest κ s floor h)
 
 pub reclaimed-newest : (s : Store) (m : ℕ) (k : Record → Bool) (κ : Branch → Bool) (floor : ℕ) → Chain floor (newest s)
     → newest (reclaimed s m k κ) ≡ leftRows κ (newest s)
@@ -104,6 +107,12 @@ isLeft s m = stays m (moments (names s)) (given s m)
 
 abbrev pub after : Store → ℕ → Store
 after s m = reclaimed s m (isGiven s m) (isLeft s m)
+
+-- an accepted reclaim
+pub reclaim-accepted : (s : Store) (m : ℕ) → s .head .floor ≤ m → m ≤ s .head .now
+    → step s (reclaim m) ≡ record { store = after s m; answer = accepted (s .head .records - length (given s m)) }
+unfolding step doReclaim
+reclaim-accepted s m l u = rw (le-ltb m (s .head .floor) l, le-ltb (s .head .now) m u)
 
 pub records-after : (s : Store) (m : ℕ) → records (after s m) ≡ given s m
 records-after s m = reclaimed-records s m (isGiven s m) (isLeft s m)
@@ -177,7 +186,7 @@ module _ (s : Store) (m : ℕ) (h : Sound s) (l : s .head .floor ≤ m) (u : m �
   kept-find a t i j =
       let e : landing κ (newest s) t ≡ t = landing-stays κ (newest s) t (λ b _ e. readable-row b t i e) in
       ap (find (given s m) a (leftRows κ (newest s))) (sym e)
-      ∙ (find-rows κ _ m l first late (given s m) a record-row (newest s) t chain (readable-held s h t (lower t i) j)
+      ∙ (find-rows κ _ first (given s m) a record-row (newest s) t chain (readable-held s h t (lower t i) j)
       ∙ firstFound-keep (isGiven s m) (records s) a (ancestry (newest s) t) (λ r d. →given a t r i j d))
 
   newest-after : newest (after s m) ≡ leftRows κ (newest s)
@@ -193,7 +202,7 @@ module _ (s : Store) (m : ℕ) (h : Sound s) (l : s .head .floor ≤ m) (u : m �
   unfolding reclaimed names
   sound-after =
       let z : Sizes s = h .sizes in
-      let rows : SoundRows m (s .head .now) (leftRows κ (newest s)) = rows-left κ _ m l first late (s .head .now) (newest s) (omega arith) (h .rows) in
+      let rows : SoundRows m (s .head .now) (leftRows κ (newest s)) = rows-left κ _ first m l (s .head .now) (newest s) (λ b _. late b) (omega arith) (h .rows) in
       let rows′ : SoundRows m (s .head .now) (newest (after s m)) = rw newest-after rows in
       let ln : length (records s) ≡ s .head .records = length-records s z in
       let lb : length (branches s) ≡ s .head .branches = length-branches s z in

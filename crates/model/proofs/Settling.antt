@@ -4,16 +4,16 @@ use mathlib.Core.Path.{_≡_, refl, sym, ap, _∙_}
 use mathlib.Core.Logic.{_⊎_, inl, inr}
 use mathlib.Core.List.{List, [], _∷_, map}
 use mathlib.Core.Option.{Option, none}
-use mathlib.Core.Bool.{Bool, true, false, cond, not, false≢true}
+use mathlib.Core.Bool.{Bool, true, false, cond, false≢true}
 use native.Mathlib.Omega.{arith}
 use lib.Dec.{leb, eqb}
-use borrow.Author.Tests.{leb-true, le-leb, eqb-true, eq-eqb, ne-eqb}
+use borrow.Author.Tests.{le-leb, eq-eqb}
 use Rattle.model.specs.declared.Branch.{Branch}
 use Rattle.model.specs.declared.Record.{Record}
 use Rattle.model.specs.Store.{keep, any, open-end, _∈_}
 use Rattle.model.specs.Lookup.{holds, ancestry, orElse, latest, firstFound}
 use Rattle.model.specs.Step.{stays, landing, withCut}
-use Rattle.model.proofs.Base.{case, or→, →or₂, absurd-test, any-mem, mem-any, map-same, keep-true, keep-false, mem-keep}
+use Rattle.model.proofs.Base.{case, →or₂, passes, absurd-test, any-mem, map-same, keep-true, keep-false, mem-keep}
 use Rattle.model.proofs.Latest.{Within, not-within, latest-none}
 use Rattle.model.specs.ByNumber.{Link, Chain, Open, SoundRows, Falls, find}
 use Rattle.model.proofs.Ancestry.{Holds, holds→, →holds, not-holds, any-cons, any-head, any-tail, chain-ordered, held-below, falls, find-hold, find-skip, Below, earlier-below}
@@ -23,7 +23,7 @@ pub holds-cut : (b : Branch) (u t : ℕ) → holds (withCut b u) t ≡ holds b t
 unfolding holds
 holds-cut b u t = refl
 
-pub cut-low : (floor : ℕ) (bs : List Branch) (d : Branch) → Chain floor bs → d ∈ bs → d .cut ≤ d .start
+cut-low : (floor : ℕ) (bs : List Branch) (d : Branch) → Chain floor bs → d ∈ bs → d .cut ≤ d .start
 cut-low floor bs d h m = go bs (falls floor bs h) m
   where
     go : (cs : List Branch) → Falls cs → d ∈ cs → d .cut ≤ d .start
@@ -44,37 +44,9 @@ module _ (floor : ℕ) (named : List ℕ) (kept : List Record) (b : Branch) wher
   →stays (inr (inr (inr x))) =
       →or₂ (eqb (b .start) 0) (→or₂ (leb floor (b .end)) (→or₂ (any (holds b) named) (any-mem (λ r. holds b (r .moment)) (x .0) kept (x .1) (x .2))))
 
-  pub stays→ : stays floor named kept b ≡ true → Kind floor named kept b
-  unfolding stays
-  stays→ e =
-      elim (or→ (eqb (b .start) 0) _ e) [
-        | inl d ↦ inl (eqb-true (b .start) 0 d)
-        | inr d ↦
-            elim (or→ (leb floor (b .end)) _ d) [
-              | inl c ↦ inr (inl (leb-true floor (b .end) c))
-              | inr c ↦
-                  elim (or→ (any (holds b) named) _ c) [
-                    | inl x ↦ inr (inr (inl (mem-any (holds b) named x)))
-                    | inr x ↦ inr (inr (inr (mem-any (λ r. holds b (r .moment)) kept x)))
-                  ]
-            ]
-      ]
-
   pub stays-cut : (t : ℕ) → stays floor named kept (withCut b t) ≡ stays floor named kept b
   unfolding stays holds
   stays-cut t = refl
-
--- a higher floor and fewer records leave fewer rows
-pub stays-fewer : (f g : ℕ) (named : List ℕ) (rs qs : List Record) (b : Branch) → f ≤ g → ((r : Record) → r ∈ qs → r ∈ rs)
-    → stays g named qs b ≡ true → stays f named rs b ≡ true
-stays-fewer f g named rs qs b l i e =
-    →stays f named rs b
-    (elim (stays→ g named qs b e) [
-      | inl x ↦ inl x
-      | inr (inl x) ↦ inr (inl (omega arith))
-      | inr (inr (inl x)) ↦ inr (inr (inl x))
-      | inr (inr (inr x)) ↦ inr (inr (inr (x .0, i (x .0) (x .1), x .2)))
-    ])
 
 module _ (κ : Branch → Bool) where
   pub landing-left : (b : Branch) (bs : List Branch) (t : ℕ) → holds b t ≡ true → κ b ≡ true → landing κ (b ∷ bs) t ≡ t
@@ -112,13 +84,21 @@ module _ (κ : Branch → Bool) where
   leftRows [] = []
   leftRows (b ∷ bs) = cond (κ b) (withCut b (landing κ bs (b .cut)) ∷ leftRows bs) (leftRows bs)
 
-  pub left-true : (b : Branch) (bs : List Branch) → κ b ≡ true → leftRows (b ∷ bs) ≡ withCut b (landing κ bs (b .cut)) ∷ leftRows bs
+  left-true : (b : Branch) (bs : List Branch) → κ b ≡ true → leftRows (b ∷ bs) ≡ withCut b (landing κ bs (b .cut)) ∷ leftRows bs
   unfolding leftRows
   left-true b bs k = rw k
 
-  pub left-false : (b : Branch) (bs : List Branch) → κ b ≡ false → leftRows (b ∷ bs) ≡ leftRows bs
+  left-false : (b : Branch) (bs : List Branch) → κ b ≡ false → leftRows (b ∷ bs) ≡ leftRows bs
   unfolding leftRows
   left-false b bs k = rw k
+
+  -- a row that passes is left, with some cut
+  pub row-left : (bs : List Branch) (d : Branch) → d ∈ bs → κ d ≡ true → (t : ℕ) × (withCut d t ∈ leftRows bs)
+  unfolding leftRows
+  row-left (b ∷ bs) d (inl e) k = (landing κ bs (d .cut), rw (← e, k) (inl refl))
+  row-left (b ∷ bs) d (inr m) k =
+      let ih : (t : ℕ) × (withCut d t ∈ leftRows bs) = row-left bs d m k in
+      (ih .0, case (κ b) (λ j. rw j (inr (ih .1))) (λ j. rw j (ih .1)))
 
   -- cuts may as well be followed among all rows: no row holds a cut of its own or of an earlier one, but the first its 0
   pub left-map : (floor : ℕ) (bs : List Branch) → Chain floor bs → map (λ b. withCut b (landing κ bs (b .cut))) (keep κ bs) ≡ leftRows bs
@@ -165,9 +145,9 @@ module _ (κ : Branch → Bool) where
       let f : landing κ (c ∷ bs) t ≤ t = landing-falls (c ∷ bs) (falls floor (c ∷ bs) (h .1)) t in
       not-holds b (landing κ (c ∷ bs) t) (omega arith)
 
-  module _ (floor m : ℕ) (rises : floor ≤ m) (first : (b : Branch) → b .start ≡ 0 → κ b ≡ true) (late : (b : Branch) → m ≤ b .end → κ b ≡ true) where
+  module _ (floor : ℕ) (first : (b : Branch) → b .start ≡ 0 → κ b ≡ true) where
     -- where a cut lands is in a row left
-    pub landing-held : (b : Branch) (bs : List Branch) (t : ℕ) → Chain floor (b ∷ bs) → any (λ d. holds d t) (b ∷ bs) ≡ true
+    landing-held : (b : Branch) (bs : List Branch) (t : ℕ) → Chain floor (b ∷ bs) → any (λ d. holds d t) (b ∷ bs) ≡ true
         → any (λ d. holds d (landing κ (b ∷ bs) t)) (leftRows (b ∷ bs)) ≡ true
     unfolding leftRows any
     landing-held b [] t h e =
@@ -188,75 +168,6 @@ module _ (κ : Branch → Bool) where
         case (κ b)
         (λ k. rw (landing-skip b (c ∷ bs) t d, k) (any-tail (withCut b (landing κ (c ∷ bs) (b .cut))) (leftRows (c ∷ bs)) (landing κ (c ∷ bs) t) ih))
         (λ k. rw (landing-skip b (c ∷ bs) t d, k) ih))
-
-    -- the newest row left, against the newest row
-    record Top (c : Branch) (ds : List Branch) : Type 0 where
-      row : Branch
-      rest : List Branch
-      is : ds ≡ row ∷ rest
-      starts : row .start ≤ c .start
-      ends : row .end ≤ c .end
-      same : m ≤ c .end → row .end ≡ c .end
-      chain : Chain m (row ∷ rest)
-
-    top-left : (b : Branch) (bs : List Branch) → Chain floor (b ∷ bs) → Top b (leftRows (b ∷ bs))
-    unfolding leftRows landing
-    top-left b [] h =
-        record {
-          row = b;
-          rest = [];
-          is = left-true b [] (first b (h .start));
-          starts = omega arith;
-          ends = omega arith;
-          same = λ i. refl;
-          chain = h;
-        }
-    top-left b (c ∷ bs) h =
-        let l : Link floor b c bs = h .0 in
-        let ih : Top c (leftRows (c ∷ bs)) = top-left c bs (h .1) in
-        case (κ b)
-        (λ k.
-        record {
-          row = withCut b (landing κ (c ∷ bs) (b .cut));
-          rest = leftRows (c ∷ bs);
-          is = left-true b (c ∷ bs) k;
-          starts = omega arith;
-          ends = omega arith;
-          same = λ i. refl;
-          chain =
-              rw (ih .is) (
-                record {
-                  ordered = l .ordered;
-                  after = omega (arith, ih .ends, l .after);
-                  follows =
-                      λ i.
-                      let f : b .start ≡ c .end + 1 = l .follows (omega arith) in
-                      let s : ih .row .end ≡ c .end = ih .same (omega arith) in
-                      omega arith;
-                  parent = rw (ih .is) at (landing-held c bs (b .cut) (h .1) (l .parent));
-                },
-                ih .chain,
-              );
-        })
-        (λ k.
-        record {
-          row = ih .row;
-          rest = ih .rest;
-          is = left-false b (c ∷ bs) k ∙ ih .is;
-          starts = omega (arith, ih .starts, chain-ordered floor c bs (h .1));
-          ends = omega (arith, ih .ends);
-          same = λ i. absurd-test (late b i) k;
-          chain = ih .chain;
-        })
-
-    -- the rows left are sound
-    pub rows-left : (now : ℕ) (bs : List Branch) → m ≤ open-end → SoundRows floor now bs → SoundRows m now (leftRows bs)
-    rows-left now [] u h = absurd h
-    rows-left now (b ∷ bs) u h =
-        let o : Open now b = h .0 in
-        let t : Top b (leftRows (b ∷ bs)) = top-left b bs (h .1) in
-        let s : t .row .end ≡ b .end = t .same (omega arith) in
-        rw (t .is) (record { still = s ∙ o .still; begun = omega (arith, t .starts) }, t .chain)
 
     -- reads go on as before, where no record is in a row that goes
     find-left : (rs : List Record) (a : ℕ) → ((b : Branch) (r : Record) → r ∈ rs → holds b (r .moment) ≡ true → κ b ≡ true)
@@ -308,22 +219,116 @@ module _ (κ : Branch → Bool) where
     find-rows rs a g [] t h e = absurd h
     find-rows rs a g (b ∷ bs) t h e = find-left rs a g b bs t h e
 
--- rows left in two stages
-module _ (κ κ′ : Branch → Bool) (fewer : (b : Branch) → κ′ b ≡ true → κ b ≡ true) (plain : (b : Branch) (t : ℕ) → κ′ (withCut b t) ≡ κ′ b) (floor : ℕ) where
-  gone : (b : Branch) → κ b ≡ false → κ′ b ≡ false
-  gone b k = case (κ′ b) (λ e. absurd-test (fewer b e) k) (λ e. e)
+    -- rows that end at or above a higher floor are left
+    module _ (m : ℕ) (rises : floor ≤ m) where
+      abbrev Late : List Branch → Type 0
+      Late bs = (b : Branch) → b ∈ bs → m ≤ b .end → κ b ≡ true
 
+      -- the newest row left, against the newest row
+      record Top (c : Branch) (ds : List Branch) : Type 0 where
+        row : Branch
+        rest : List Branch
+        is : ds ≡ row ∷ rest
+        starts : row .start ≤ c .start
+        ends : row .end ≤ c .end
+        same : m ≤ c .end → row .end ≡ c .end
+        chain : Chain m (row ∷ rest)
+
+      top-left : (b : Branch) (bs : List Branch) → Late (b ∷ bs) → Chain floor (b ∷ bs) → Top b (leftRows (b ∷ bs))
+      unfolding leftRows landing
+      top-left b [] late h =
+          record {
+            row = b;
+            rest = [];
+            is = left-true b [] (first b (h .start));
+            starts = omega arith;
+            ends = omega arith;
+            same = λ i. refl;
+            chain = h;
+          }
+      top-left b (c ∷ bs) late h =
+          let l : Link floor b c bs = h .0 in
+          let ih : Top c (leftRows (c ∷ bs)) = top-left c bs (λ d i. late d (inr i)) (h .1) in
+          case (κ b)
+          (λ k.
+          record {
+            row = withCut b (landing κ (c ∷ bs) (b .cut));
+            rest = leftRows (c ∷ bs);
+            is = left-true b (c ∷ bs) k;
+            starts = omega arith;
+            ends = omega arith;
+            same = λ i. refl;
+            chain =
+                rw (ih .is) (
+                  record {
+                    ordered = l .ordered;
+                    after = omega (arith, ih .ends, l .after);
+                    follows =
+                        λ i.
+                        let f : b .start ≡ c .end + 1 = l .follows (omega arith) in
+                        let s : ih .row .end ≡ c .end = ih .same (omega arith) in
+                        omega arith;
+                    parent = rw (ih .is) at (landing-held c bs (b .cut) (h .1) (l .parent));
+                  },
+                  ih .chain,
+                );
+          })
+          (λ k.
+          record {
+            row = ih .row;
+            rest = ih .rest;
+            is = left-false b (c ∷ bs) k ∙ ih .is;
+            starts = omega (arith, ih .starts, chain-ordered floor c bs (h .1));
+            ends = omega (arith, ih .ends);
+            same = λ i. absurd-test (late b (inl refl) i) k;
+            chain = ih .chain;
+          })
+
+      -- the rows left are sound
+      pub rows-left : (now : ℕ) (bs : List Branch) → Late bs → m ≤ open-end → SoundRows floor now bs → SoundRows m now (leftRows bs)
+      rows-left now [] late u h = absurd h
+      rows-left now (b ∷ bs) late u h =
+          let o : Open now b = h .0 in
+          let t : Top b (leftRows (b ∷ bs)) = top-left b bs late (h .1) in
+          let s : t .row .end ≡ b .end = t .same (omega arith) in
+          rw (t .is) (record { still = s ∙ o .still; begun = omega (arith, t .starts) }, t .chain)
+
+      pub chain-left : (bs : List Branch) → Late bs → Chain floor bs → Chain m (leftRows bs)
+      chain-left [] late h = absurd h
+      chain-left (b ∷ bs) late h =
+          let t : Top b (leftRows (b ∷ bs)) = top-left b bs late h in
+          rw (t .is) (t .chain)
+
+-- only the rows there count
+module _ (κ κ′ : Branch → Bool) where
+  landing-same : (bs : List Branch) (t : ℕ) → ((b : Branch) → b ∈ bs → κ b ≡ κ′ b) → landing κ bs t ≡ landing κ′ bs t
+  unfolding landing
+  landing-same [] t h = refl
+  landing-same (b ∷ bs) t h = rw (h b (inl refl), landing-same bs (b .cut) (λ d m. h d (inr m)), landing-same bs t (λ d m. h d (inr m)))
+
+  pub left-same : (bs : List Branch) → ((b : Branch) → b ∈ bs → κ b ≡ κ′ b) → leftRows κ bs ≡ leftRows κ′ bs
+  unfolding leftRows
+  left-same [] h = refl
+  left-same (b ∷ bs) h = rw (h b (inl refl), landing-same bs (b .cut) (λ d m. h d (inr m)), left-same bs (λ d m. h d (inr m)))
+
+pub left-all : (bs : List Branch) → leftRows (λ b. true) bs ≡ bs
+unfolding leftRows
+left-all [] = refl
+left-all (b ∷ bs) = rw (landing-stays (λ b. true) bs (b .cut) (λ d m e. refl), left-all bs)
+
+-- rows left in two stages: those that pass both tests
+module _ (κ κ′ : Branch → Bool) (plain : (b : Branch) (t : ℕ) → κ′ (withCut b t) ≡ κ′ b) (floor : ℕ) where
   landing-twice : (b : Branch) (bs : List Branch) (t : ℕ) → Chain floor (b ∷ bs) → any (λ d. holds d t) (b ∷ bs) ≡ true
-      → landing κ′ (leftRows κ (b ∷ bs)) (landing κ (b ∷ bs) t) ≡ landing κ′ (b ∷ bs) t
+      → landing κ′ (leftRows κ (b ∷ bs)) (landing κ (b ∷ bs) t) ≡ landing (passes κ κ′) (b ∷ bs) t
   unfolding any
   landing-twice b [] t h e =
       elim (any-cons b [] t e) [
-        | inl d ↦ unfold leftRows landing in rw d (case (κ b) (λ k. rw (k, holds-cut b (b .cut) t, d, plain b (b .cut))) (λ k. rw (k, gone b k)))
+        | inl d ↦ unfold leftRows landing in rw d (case (κ b) (λ k. rw (k, holds-cut b (b .cut) t, d, plain b (b .cut))) (λ k. rw k))
         | inr d ↦ absurd (false≢true d)
       ]
   landing-twice b (c ∷ bs) t h e =
       let l : Link floor b c bs = h .0 in
-      let up : landing κ′ (leftRows κ (c ∷ bs)) (landing κ (c ∷ bs) (b .cut)) ≡ landing κ′ (c ∷ bs) (b .cut) = landing-twice c bs (b .cut) (h .1) (l .parent) in
+      let up : landing κ′ (leftRows κ (c ∷ bs)) (landing κ (c ∷ bs) (b .cut)) ≡ landing (passes κ κ′) (c ∷ bs) (b .cut) = landing-twice c bs (b .cut) (h .1) (l .parent) in
       let b′ : Branch = withCut b (landing κ (c ∷ bs) (b .cut)) in
       case (holds b t)
       (λ d.
@@ -331,65 +336,31 @@ module _ (κ κ′ : Branch → Bool) (fewer : (b : Branch) → κ′ b ≡ true
       (λ k.
       rw (landing-left κ b (c ∷ bs) t d k, left-true κ b (c ∷ bs) k)
       (case (κ′ b)
-      (λ j. landing-left κ′ b′ (leftRows κ (c ∷ bs)) t (holds-cut b _ t ∙ d) (plain b _ ∙ j) ∙ sym (landing-left κ′ b (c ∷ bs) t d j))
-      (λ j. landing-gone κ′ b′ (leftRows κ (c ∷ bs)) t (holds-cut b _ t ∙ d) (plain b _ ∙ j) ∙ (up ∙ sym (landing-gone κ′ b (c ∷ bs) t d j)))))
-      (λ k. rw (landing-gone κ b (c ∷ bs) t d k, left-false κ b (c ∷ bs) k) (up ∙ sym (landing-gone κ′ b (c ∷ bs) t d (gone b k)))))
+      (λ j. landing-left κ′ b′ (leftRows κ (c ∷ bs)) t (holds-cut b _ t ∙ d) (plain b _ ∙ j) ∙ sym (landing-left (passes κ κ′) b (c ∷ bs) t d (rw (k, j))))
+      (λ j. landing-gone κ′ b′ (leftRows κ (c ∷ bs)) t (holds-cut b _ t ∙ d) (plain b _ ∙ j) ∙ (up ∙ sym (landing-gone (passes κ κ′) b (c ∷ bs) t d (rw (k, j)))))))
+      (λ k. rw (landing-gone κ b (c ∷ bs) t d k, left-false κ b (c ∷ bs) k) (up ∙ sym (landing-gone (passes κ κ′) b (c ∷ bs) t d (rw k)))))
       (λ d.
       let e′ : any (λ x. holds x t) (c ∷ bs) ≡ true = elim (any-cons b (c ∷ bs) t e) [ inl y ↦ absurd-test y d | inr y ↦ y ] in
-      let ih : landing κ′ (leftRows κ (c ∷ bs)) (landing κ (c ∷ bs) t) ≡ landing κ′ (c ∷ bs) t = landing-twice c bs t (h .1) e′ in
+      let ih : landing κ′ (leftRows κ (c ∷ bs)) (landing κ (c ∷ bs) t) ≡ landing (passes κ κ′) (c ∷ bs) t = landing-twice c bs t (h .1) e′ in
       let y : holds b′ (landing κ (c ∷ bs) t) ≡ false = holds-cut b _ _ ∙ past κ floor b c bs t h e′ in
       case (κ b)
       (λ k.
       rw (landing-skip κ b (c ∷ bs) t d, left-true κ b (c ∷ bs) k)
-      (landing-skip κ′ b′ (leftRows κ (c ∷ bs)) (landing κ (c ∷ bs) t) y ∙ (ih ∙ sym (landing-skip κ′ b (c ∷ bs) t d))))
-      (λ k. rw (landing-skip κ b (c ∷ bs) t d, left-false κ b (c ∷ bs) k) (ih ∙ sym (landing-skip κ′ b (c ∷ bs) t d))))
+      (landing-skip κ′ b′ (leftRows κ (c ∷ bs)) (landing κ (c ∷ bs) t) y ∙ (ih ∙ sym (landing-skip (passes κ κ′) b (c ∷ bs) t d))))
+      (λ k. rw (landing-skip κ b (c ∷ bs) t d, left-false κ b (c ∷ bs) k) (ih ∙ sym (landing-skip (passes κ κ′) b (c ∷ bs) t d))))
 
-  pub left-twice : (bs : List Branch) → Chain floor bs → leftRows κ′ (leftRows κ bs) ≡ leftRows κ′ bs
+  pub left-twice : (bs : List Branch) → Chain floor bs → leftRows κ′ (leftRows κ bs) ≡ leftRows (passes κ κ′) bs
   left-twice [] h = absurd h
-  left-twice (b ∷ []) h = unfold leftRows landing in case (κ b) (λ k. rw (k, plain b (b .cut))) (λ k. rw (k, gone b k))
+  left-twice (b ∷ []) h = unfold leftRows landing in case (κ b) (λ k. rw (k, plain b (b .cut))) (λ k. rw k)
   left-twice (b ∷ c ∷ bs) h =
       let l : Link floor b c bs = h .0 in
-      let ih : leftRows κ′ (leftRows κ (c ∷ bs)) ≡ leftRows κ′ (c ∷ bs) = left-twice (c ∷ bs) (h .1) in
-      let up : landing κ′ (leftRows κ (c ∷ bs)) (landing κ (c ∷ bs) (b .cut)) ≡ landing κ′ (c ∷ bs) (b .cut) = landing-twice c bs (b .cut) (h .1) (l .parent) in
+      let ih : leftRows κ′ (leftRows κ (c ∷ bs)) ≡ leftRows (passes κ κ′) (c ∷ bs) = left-twice (c ∷ bs) (h .1) in
+      let up : landing κ′ (leftRows κ (c ∷ bs)) (landing κ (c ∷ bs) (b .cut)) ≡ landing (passes κ κ′) (c ∷ bs) (b .cut) = landing-twice c bs (b .cut) (h .1) (l .parent) in
       let b′ : Branch = withCut b (landing κ (c ∷ bs) (b .cut)) in
       case (κ b)
       (λ k.
       rw (left-true κ b (c ∷ bs) k)
       (case (κ′ b)
-      (λ j. left-true κ′ b′ (leftRows κ (c ∷ bs)) (plain b _ ∙ j) ∙ ((cc) ∙ sym (left-true κ′ b (c ∷ bs) j)))
-      (λ j. left-false κ′ b′ (leftRows κ (c ∷ bs)) (plain b _ ∙ j) ∙ (ih ∙ sym (left-false κ′ b (c ∷ bs) j)))))
-      (λ k. rw (left-false κ b (c ∷ bs) k) (ih ∙ sym (left-false κ′ b (c ∷ bs) (gone b k))))
-
--- one row goes, and each child takes over its cut; by left-twice the order in which rows go does not matter
-abbrev pub butRow : Branch → Branch → Bool
-butRow d b = not (eqb (b .start) (d .start))
-
-module _ (floor : ℕ) (d : Branch) where
-  others : (bs : List Branch) → ((b : Branch) → b ∈ bs → Below d b) → (b : Branch) → b ∈ bs → butRow d b ≡ true
-  others bs h b m =
-      let z : Below d b = h b m in
-      rw (ne-eqb (b .start) (d .start) (λ e. omega arith))
-
-  landing-one : (bs : List Branch) (t : ℕ) → Chain floor bs → d ∈ bs → landing (butRow d) bs t ≡ cond (holds d t) (d .cut) t
-  unfolding landing
-  landing-one (b ∷ bs) t h (inl e) =
-      let rest : (x : Branch) → x ∈ bs → butRow d x ≡ true = others bs (λ x m. rw e (earlier-below floor b bs x h m)) in
-      let own : butRow d b ≡ false = rw (eq-eqb (b .start) (d .start) (ap (λ (x : Branch). x .start) (sym e))) in
-      let stay : (u : ℕ) → landing (butRow d) bs u ≡ u = λ u. landing-stays (butRow d) bs u (λ x m _. rest x m) in
-      case (holds b t)
-      (λ y. landing-gone (butRow d) b bs t y own ∙ (stay (b .cut) ∙ rw (e, y)))
-      (λ y. landing-skip (butRow d) b bs t y ∙ (stay t ∙ rw (e, y)))
-  landing-one (b ∷ c ∷ bs) t h (inr m) =
-      let z : Below b d = earlier-below floor b (c ∷ bs) d h m in
-      let other : butRow d b ≡ true = rw (ne-eqb (b .start) (d .start) (λ e. omega arith)) in
-      case (holds b t)
-      (λ y.
-      let i : Holds b t = holds→ b t y in
-      let n : holds d t ≡ false = case (holds d t) (λ x. let j : Holds d t = holds→ d t x in absurd (omega arith)) (λ x. x) in
-      landing-left (butRow d) b (c ∷ bs) t y other ∙ rw n)
-      (λ y. landing-skip (butRow d) b (c ∷ bs) t y ∙ landing-one (c ∷ bs) t (h .1) m)
-
-  pub one-goes : (bs : List Branch) → Chain floor bs → d ∈ bs
-      → leftRows (butRow d) bs ≡ map (λ b. withCut b (cond (holds d (b .cut)) (d .cut) (b .cut))) (keep (butRow d) bs)
-  one-goes bs h m =
-      sym (left-map (butRow d) floor bs h) ∙ map-same _ _ (keep (butRow d) bs) (λ b _. ap (λ (t : ℕ). withCut b t) (landing-one bs (b .cut) h m))
+      (λ j. left-true κ′ b′ (leftRows κ (c ∷ bs)) (plain b _ ∙ j) ∙ ((cc) ∙ sym (left-true (passes κ κ′) b (c ∷ bs) (rw (k, j)))))
+      (λ j. left-false κ′ b′ (leftRows κ (c ∷ bs)) (plain b _ ∙ j) ∙ (ih ∙ sym (left-false (passes κ κ′) b (c ∷ bs) (rw (k, j)))))))
+      (λ k. rw (left-false κ b (c ∷ bs) k) (ih ∙ sym (left-false (passes κ κ′) b (c ∷ bs) (rw k))))
