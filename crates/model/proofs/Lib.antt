@@ -28,3 +28,4 @@ pub mod Demand3
 pub mod Copies
 pub mod Putting
 pub mod Commissioned
+pub mod Removal
