@@ -29,3 +29,4 @@ pub mod Copies
 pub mod Putting
 pub mod Commissioned
 pub mod Removal
+pub mod Again
