@@ -4,7 +4,7 @@ use mathlib.Core.List.{List}
 use Prim.Native.Nat.{ℕ, _+_, _≤_, _<_}
 use native.Mathlib.Omega.{arith}
 use lib.Dec.{eqb}
-use lib.ListN.{length, getD, set, length-set}
+use lib.ListN.{length, set, length-set}
 use lib.Seq.{getD-set-same, getD-set-other}
 use borrow.Author.Tests.{eqb-true, eqb-false}
 use Rattle.model.proofs.Base.{case}
@@ -31,14 +31,6 @@ filled-step {f} {i} {old} {new} h l {v} e =
 
 pub filled-end : {f : ℕ → ℕ} {i n : ℕ} {old new : List ℕ} → Filled f i old new → i ≤ n → n ≤ i → Filled f n old new
 filled-end {f} {i} {n} h a b = let e : i ≡ n = omega arith in rw e at h
-
--- filled twice
-pub filled-after : {f g : ℕ → ℕ} {i j : ℕ} {old mid new : List ℕ} → Filled g j old mid → j ≤ i → Filled f i mid new → Filled f i old new
-filled-after h l k =
-    record { first = k .first; rest = λ q a. k .rest q a ∙ h .rest q (omega arith); long = k .long ∙ h .long }
-
-pub filled-self : {f : ℕ → ℕ} {i : ℕ} {old new : List ℕ} → Filled f i old new → Filled f i new new
-filled-self h = record { first = h .first; rest = λ k a. refl; long = refl }
 
 -- the numbers from n on stay where one below n is set, last or first
 pub rest-start : {n : ℕ} {t : List ℕ} → Rest n t t

@@ -1,13 +1,16 @@
--- Branches by row number: the branch that holds a moment, and the parent of a branch; tables of numbers.
+-- Branches by row number: the branch that holds a moment, the parent of a branch, and the branches that stay.
 use mathlib.Core.Path.{_≡_}
-use mathlib.Core.List.{List}
+use mathlib.Core.List.{List, map}
 use mathlib.Core.Bool.{Bool, true, cond}
 use Prim.Native.Nat.{ℕ, zero, suc, _≤_, _<_}
+use lib.Dec.{ltb}
 use lib.ListN.{length, getD}
 use Rattle.model.specs.declared.Branch.{Branch}
-use Rattle.model.specs.Store.{_∈_}
+use Rattle.model.specs.declared.Record.{Record}
+use Rattle.model.specs.Store.{keep, any, _∈_}
 use Rattle.model.specs.Lookup.{holds}
-use Rattle.model.specs.ByNumber.{branch, held}
+use Rattle.model.specs.Step.{stays}
+use Rattle.model.specs.ByNumber.{branch, entry, held}
 
 -- the newest of the first n rows that holds the moment t
 unfoldable pub holder : List Branch → ℕ → ℕ → ℕ
@@ -29,6 +32,10 @@ bit b = cond b 1 0
 pub record Held (bs : List Branch) (n : ℕ) (moments : List ℕ) : Type 0 where
   pub each : (t : ℕ) → t ∈ moments → held bs n t ≡ true
 
+-- the moments of the records are held
+pub record Placed (bs : List Branch) (n : ℕ) (rs : List Record) (nr : ℕ) : Type 0 where
+  pub each : (k : ℕ) → k < nr → held bs n (entry rs k .moment) ≡ true
+
 -- a table whose first n numbers are f 0, f 1, .., the others as they were
 pub record Filled (f : ℕ → ℕ) (n : ℕ) (old new : List ℕ) : Type 0 where
   pub first : (k : ℕ) → k < n → getD new k 0 ≡ f k
@@ -48,3 +55,15 @@ pub record Zeros (n : ℕ) (t : List ℕ) : Type 0 where
 -- the parent: the earlier row that holds the cut; the first row has none, and 0 stands for it
 abbrev pub parentOf : List Branch → ℕ → ℕ
 parentOf bs i = holder bs i (branch bs i .cut)
+
+-- the byte of a branch: 1 where it holds one of the moments, else as it was
+abbrev pub heldToo : List Branch → List ℕ → List ℕ → ℕ → ℕ
+heldToo bs moments marks i = cond (any (holds (branch bs i)) moments) 1 (getD marks i 0)
+
+-- the moments of the records that are older than the floor
+abbrev pub olderMoments : ℕ → List Record → List ℕ
+olderMoments floor rs = map (λ r. r .moment) (keep (λ r. ltb (r .moment) floor) rs)
+
+-- the byte of a branch: 1 where it stays
+abbrev pub keptBranch : List Branch → ℕ → List ℕ → List Record → ℕ → ℕ
+keptBranch bs floor named kept i = bit (stays floor named kept (branch bs i))
