@@ -1,8 +1,8 @@
--- Change request Four, what a reclaim does to branches, row by row. proofs/Removal proves it.
+-- Change request Four, what a reclaim does to branches, row by row (proofs/Removal), and a second time (proofs/Again).
 use Prim.Native.Nat.{ℕ, _≤_}
 use mathlib.Core.Path.{_≡_}
 use mathlib.Core.List.{List, [], _∷_, map}
-use mathlib.Core.Bool.{Bool, true, false, cond, not}
+use mathlib.Core.Bool.{Bool, true, cond, not}
 use lib.Dec.{eqb}
 use Rattle.model.specs.declared.Branch.{Branch}
 use Rattle.model.specs.Store.{Store, branches, records, names, moments, keep, open-end, zero-branch, _∈_}
