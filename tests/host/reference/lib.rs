@@ -477,8 +477,9 @@ impl Store {
         let holding = |moment| self.branch_holding(moment).expect("the moment lies inside a counted row");
         let rows = self.counted_branches();
         let mut keep: Vec<bool> = rows.iter().map(|row| row.start == 0 || row.end >= floor).collect();
-        for name in self.counted_names() {
-            keep[holding(name.moment)] = true;
+        let named = self.counted_names().iter().map(|name| name.moment);
+        for moment in named {
+            keep[holding(moment)] = true;
         }
         for (row, record) in self.counted_records().iter().enumerate() {
             if records[row] {
