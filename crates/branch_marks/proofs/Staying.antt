@@ -6,9 +6,9 @@ use Prim.Native.Nat.{ℕ, suc, _+_, _≤_, _<_}
 use native.Mathlib.Omega.{arith}
 use native.Mathlib.Numerals.{add-one}
 use lib.Dec.{leb, ltb, eqb}
-use lib.ListN.{length, set, take}
+use lib.ListN.{length, getD, set, take}
 use lib.Seq.{take-suc, length-take-le, getD-take}
-use borrow.Author.Tests.{leb-false, ltb-false, lt-ltb, le-ltb}
+use borrow.Author.Tests.{leb-false, ltb-false, eq-eqb, ne-eqb, le-leb, lt-leb, lt-ltb, le-ltb}
 use Rattle.model.specs.declared.Branch.{Branch}
 use Rattle.model.specs.declared.Record.{Record}
 use Rattle.model.specs.declared.Name.{Name}
@@ -18,7 +18,7 @@ use Rattle.model.specs.Step.{stays}
 use Rattle.model.specs.ByNumber.{branch, entry, nameRow, Stairs}
 use Rattle.model.proofs.Base.{case, →or₂, keep-append, mem-map, getD-mem}
 use Rattle.model.proofs.Ancestry.{Holds, holds→, →holds}
-use Rattle.closing.specs.Closed.{keepBy}
+use Rattle.closing.specs.Closed.{marked, keepBy}
 use Rattle.closing.proofs.Closing.{kept-more, kept-less}
 use Rattle.branch_marks.specs.Marks.{Holder, Filled, bit, heldToo, olderMoments, keptBranch}
 use Rattle.branch_marks.proofs.Holders.{holder-is}
@@ -32,6 +32,20 @@ any-snoc : (p : ℕ → Bool) (ts : List ℕ) (t : ℕ) → any p (ts ++ (t ∷ 
 unfolding any
 any-snoc p [] t = case (p t) (λ e. rw e) (λ e. rw e)
 any-snoc p (u ∷ ts) t = case (p u) (λ e. rw e) (λ e. rw e (any-snoc p ts t))
+
+-- whether a row stays by its start and end
+module _ (floor : ℕ) (b : Branch) where
+  pub stays-first : b .start ≡ 0 → 1 ≡ bit (stays floor [] [] b)
+  unfolding stays any
+  stays-first e = rw (eq-eqb (b .start) 0 e)
+
+  pub stays-late : (b .start ≡ 0 → ⊥) → floor ≤ b .end → 1 ≡ bit (stays floor [] [] b)
+  unfolding stays any
+  stays-late ne l = rw (ne-eqb (b .start) 0 ne, le-leb floor (b .end) l)
+
+  pub stays-neither : (b .start ≡ 0 → ⊥) → b .end < floor → 0 ≡ bit (stays floor [] [] b)
+  unfolding stays any
+  stays-neither ne l = rw (ne-eqb (b .start) 0 ne, lt-leb floor (b .end) l)
 
 -- one row holds a moment
 other-row : {bs : List Branch} {n t i : ℕ} → Stairs bs n → Holder bs n t i → (j : ℕ) → j < n → (j ≡ i → ⊥) → holds (branch bs j) t ≡ false
@@ -71,27 +85,27 @@ name-in ns k q l room =
     (rw (getD-take k ns q zero-name l) at (getD-mem (take k ns) q zero-name (omega (arith, length-take-le k ns room))))
 
 -- those of the first kept records that are older than the floor
-module _ (floor : ℕ) (p : ℕ → Bool) (rs : List Record) (j : ℕ) (l : j < length rs) where
+module _ (floor : ℕ) (kept : List ℕ) (rs : List Record) (j : ℕ) (l : j < length rs) where
   abbrev upTo : ℕ → List ℕ
-  upTo i = olderMoments floor (keepBy p (take i rs))
+  upTo i = olderMoments floor (keepBy (marked kept) (take i rs))
 
-  pub older-gone : p j ≡ false → upTo (j + 1) ≡ upTo j
-  older-gone e = rw (add-one j) (ap (olderMoments floor) (kept-less zero-record p rs j l e))
+  pub older-gone : (getD kept j 0 ≡ 1 → ⊥) → upTo (j + 1) ≡ upTo j
+  older-gone e = rw (add-one j) (ap (olderMoments floor) (kept-less zero-record (marked kept) rs j l (ne-eqb (getD kept j 0) 1 e)))
 
-  older-one : p j ≡ true → upTo (j + 1) ≡ upTo j ++ olderMoments floor (entry rs j ∷ [])
+  older-one : getD kept j 0 ≡ 1 → upTo (j + 1) ≡ upTo j ++ olderMoments floor (entry rs j ∷ [])
   older-one e =
-      rw (add-one j, kept-more zero-record p rs j l e, keep-append (λ r. ltb (r .moment) floor) (keepBy p (take j rs)) (entry rs j ∷ []))
-      (map-append (λ (r : Record). r .moment) (keep (λ r. ltb (r .moment) floor) (keepBy p (take j rs))) (keep (λ r. ltb (r .moment) floor) (entry rs j ∷ [])))
+      rw (add-one j, kept-more zero-record (marked kept) rs j l (eq-eqb (getD kept j 0) 1 e), keep-append (λ r. ltb (r .moment) floor) (keepBy (marked kept) (take j rs)) (entry rs j ∷ []))
+      (map-append (λ (r : Record). r .moment) (keep (λ r. ltb (r .moment) floor) (keepBy (marked kept) (take j rs))) (keep (λ r. ltb (r .moment) floor) (entry rs j ∷ [])))
 
-  pub older-young : p j ≡ true → floor ≤ entry rs j .moment → upTo (j + 1) ≡ upTo j
+  pub older-young : getD kept j 0 ≡ 1 → floor ≤ entry rs j .moment → upTo (j + 1) ≡ upTo j
   unfolding keep
   older-young e a = older-one e ∙ rw (le-ltb (entry rs j .moment) floor a) (append-nil (upTo j))
 
-  older-more : p j ≡ true → entry rs j .moment < floor → upTo (j + 1) ≡ upTo j ++ (entry rs j .moment ∷ [])
+  older-more : getD kept j 0 ≡ 1 → entry rs j .moment < floor → upTo (j + 1) ≡ upTo j ++ (entry rs j .moment ∷ [])
   unfolding keep
   older-more e a = older-one e ∙ rw (lt-ltb (entry rs j .moment) floor a)
 
-  pub older-step : {bs : List Branch} {n i : ℕ} {old new : List ℕ} (ms : List ℕ) → p j ≡ true → Stairs bs n → n ≤ length old
+  pub older-step : {bs : List Branch} {n i : ℕ} {old new : List ℕ} (ms : List ℕ) → getD kept j 0 ≡ 1 → Stairs bs n → n ≤ length old
       → {r : Record} → r ≡ entry rs j → r .moment < floor → Holder bs n (r .moment) i
       → Filled (heldToo bs (upTo j) ms) n old new → Filled (heldToo bs (upTo (j + 1)) ms) n old (set new i 1)
   older-step {bs} {n} {i} ms m h room e a k f =

@@ -4,7 +4,6 @@ use Prim.Native.Nat.{_≤_, _<_, _-_}
 use mathlib.Core.List.{List}
 use native.Mathlib.Omega.{arith}
 use borrow.Author.Needs.{needs}
-use borrow.Author.Tests.{eq-eqb, ne-eqb}
 use denote.Ref.{now}
 use lib.ListN.{length, take}
 use Rattle.model.specs.declared.Record.{Record}
@@ -61,7 +60,7 @@ loop-again c =
     let l = turn (c .before) in
     let s = start l in
     let z = c .before .before .before .loop-test .taken in
-    (omega (arith, z), l .loop .inv .1, rw (older-gone (s .args .floor) (marked (now (s .args .kept))) (records s) (l .loop .j) (omega (arith, z, counted s)) (ne-eqb _ _ (c .if1 .taken))) (l .loop .inv .2))
+    (omega (arith, z), l .loop .inv .1, rw (older-gone (s .args .floor) (now (s .args .kept)) (records s) (l .loop .j) (omega (arith, z, counted s)) (λ e. omega (arith, e, c .if1 .taken))) (l .loop .inv .2))
 
 loop-less-2 : tie.Need-loop-less-2 Inv-loop μ-loop
 loop-less-2 c = search needs
@@ -72,7 +71,7 @@ loop-again-2 c =
     let l = turn r in
     let s = start l in
     let z = r .before .before .loop-test .taken in
-    (omega (arith, z), l .loop .inv .1, rw (older-young (s .args .floor) (marked (now (s .args .kept))) (records s) (l .loop .j) (omega (arith, z, counted s)) (eq-eqb _ _ (c .before .before .if1 .left)) (omega (arith, c .if2 .taken, ap (λ (q : Record). q .moment) (r .record-at .ensures)))) (l .loop .inv .2))
+    (omega (arith, z), l .loop .inv .1, rw (older-young (s .args .floor) (now (s .args .kept)) (records s) (l .loop .j) (omega (arith, z, counted s)) (omega (arith, c .before .before .if1 .left)) (omega (arith, c .if2 .taken, ap (λ (q : Record). q .moment) (r .record-at .ensures)))) (l .loop .inv .2))
 
 row-near-requires : tie.Need-row-near-requires Inv-loop μ-loop
 row-near-requires c κs =
@@ -93,7 +92,7 @@ loop-again-3 c =
     let l = turn r in
     let s = start l in
     let z = r .before .before .loop-test .taken in
-    (omega (arith, z), c .row-near .ensures .inside, older-step (s .args .floor) (marked (now (s .args .kept))) (records s) (l .loop .j) (omega (arith, z, counted s)) (now (s .args .marks)) (eq-eqb _ _ (c .before .before .before .if1 .left)) (s .pre .1 .0) (s .pre .0 .4) (r .record-at .ensures) (c .before .if2 .left) (c .row-near .ensures) (l .loop .inv .2))
+    (omega (arith, z), c .row-near .ensures .inside, older-step (s .args .floor) (now (s .args .kept)) (records s) (l .loop .j) (omega (arith, z, counted s)) (now (s .args .marks)) (omega (arith, c .before .before .before .if1 .left)) (s .pre .1 .0) (s .pre .0 .4) (r .record-at .ensures) (omega (arith, c .before .if2 .left)) (c .row-near .ensures) (l .loop .inv .2))
 
 same-length : tie.Need-same-length Inv-loop μ-loop
 same-length c = c .before .loop .inv .2 .long
