@@ -15,7 +15,7 @@ use Rattle.model.specs.Store.{zero-branch, keep, any}
 use Rattle.model.specs.Lookup.{holds}
 use Rattle.model.specs.Step.{landing, withCut}
 use Rattle.model.specs.ByNumber.{branch, newestOf, held, Stairs, Line}
-use Rattle.model.proofs.Base.{case, keep-append, keep-one, keep-false}
+use Rattle.model.proofs.Base.{case, keep-append, keep-true, keep-false}
 use Rattle.model.proofs.Ancestry.{Holds, holds→, →holds}
 use Rattle.model.proofs.ByNumber.{top}
 use Rattle.closing.specs.Closed.{keepBy}
@@ -222,7 +222,7 @@ module _ (left : Branch → Bool) (p : ℕ → Bool) (bs : List Branch) (n : ℕ
       case (left (branch bs m))
       (λ d.
       kept-more zero-branch p rs m long (e m l ∙ d)
-      ∙ rw (more, keep-one left (branch bs m) d, map-append new (keep left (take m bs)) (branch bs m ∷ []), ih, row))
+      ∙ rw (more, keep-true left (branch bs m) [] d, map-append new (keep left (take m bs)) (branch bs m ∷ []), ih, row))
       (λ d.
       kept-less zero-branch p rs m long (e m l ∙ d)
       ∙ rw (more, keep-false left (branch bs m) [] d, append-nil (keep left (take m bs))) ih)
