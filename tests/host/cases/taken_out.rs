@@ -18,17 +18,17 @@ pub const WHAT: [&str; 9] = [
 
 #[derive(Default)]
 pub struct TakenOut {
+    /// How often each of these was seen.
     pub seen: [u64; WHAT.len()],
     reclaims: u64,
     /// How often one cut was taken over, at most.
     most: u64,
 }
 
-/// The rows on the way from these rows through parents to the first: what the rule before Four kept.
-pub fn on_way(store: &Store, from: impl Fn(&Branch) -> bool) -> Vec<bool> {
-    let rows = store.counted_branches();
-    let mut way: Vec<bool> = rows.iter().map(from).collect();
-    for row in (1..rows.len()).rev() {
+/// These rows, and those on the way from them through parents to the first: what the rule before Four kept.
+fn on_way(store: &Store, rows: Vec<bool>) -> Vec<bool> {
+    let mut way = rows;
+    for row in (1..way.len()).rev() {
         if way[row] {
             way[parent(store, row)] = true;
         }
@@ -51,8 +51,8 @@ impl TakenOut {
         for (row, record) in store.counted_records().iter().enumerate() {
             recorded[store.branch_holding(record.moment).expect("a row holds it")] |= kept.records[row];
         }
-        let readable = |row: &Branch| row.end >= floor || named[store.branch_holding(row.start).unwrap_or(0)];
-        let way = on_way(store, readable);
+        let readable = rows.iter().zip(&named).map(|(row, named)| *named || row.end >= floor);
+        let way = on_way(store, readable.collect());
         // How often the cut of each row is taken over, that of a row that goes included.
         let mut times = vec![0; rows.len()];
         for row in 1..rows.len() {

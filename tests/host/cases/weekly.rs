@@ -28,7 +28,8 @@ const OPERATORS: [Operator; 5] = [
     Operator { what: "pages, names, and the floor a year behind", writes: true, names: true, behind: YEAR },
 ];
 
-/// Every row that was ever made, with the number of rows on the way from it through parents to the first.
+/// Every row that was ever made, with the number of rows on the way from it through parents to the first. The rule before
+/// Four kept all rows on the way from now.
 struct Made(Vec<(Branch, usize)>);
 
 impl Made {
@@ -36,7 +37,7 @@ impl Made {
         Made(vec![(Branch { start: 0, end: OPEN_END, cut: 0 }, 1)])
     }
 
-    /// A revert at now: the way from the new row is one row longer than that from its parent, which the rule before Four keeps.
+    /// A revert at now: the way from the new row is one row longer than that from its parent.
     fn revert(&mut self, now: u32, cut: u32) {
         let parent = self.0.partition_point(|(row, _)| row.start <= cut) - 1;
         let way = self.0[parent].1 + 1;
@@ -82,7 +83,8 @@ fn requests_of_week(draw: &mut Draw, operator: &Operator, outlook: &Outlook, wee
 }
 
 /// The weeks of one operator; no request is refused. All areas are compared at each reclaim, and the store with the pile.
-/// The result is the largest number of rows counted, and the week after which the rule before Four has no row left.
+/// The result: the largest number of rows counted; and by the rule before Four the weeks after which no row is left, if that
+/// is so, and the number of rows on the way from now to the first at the end.
 fn operate(host: &mut dyn Host, draw: &mut Draw, operator: &Operator, weeks: u64) -> (u32, Option<u64>, usize) {
     let sizes = Sizes { size: 8, branches: MOST_BRANCHES, records: 400, places: 400 };
     let mut run = Run::fresh_of(host, draw, &sizes);
