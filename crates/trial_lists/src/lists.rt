@@ -124,6 +124,7 @@ pub fn list_batch(w: &mut Numbers, j: u32) -> u32
         0 => list_one(w, j),
         1 => list_all(w, n),
         3 => list_cut(w, n),
+        4 => list_drawn_one(w),
         5 => list_space(w, n),
         _ => list_drawn(w),
     }
@@ -165,6 +166,14 @@ fn list_drawn(w: &mut Numbers) {
     put(w, COUNT, n);
     draw_cut(w);
     draw_area(w, n % 16 * PAGE_ANSWER);
+}
+
+// One drawn request, whole and with space for its answer.
+fn list_drawn_one(w: &mut Numbers) {
+    draw_requests(w, 1);
+    put(w, COUNT, 1);
+    put(w, AREA, PAGE_ANSWER);
+    put(w, CUT, 0);
 }
 
 fn draw_cut(w: &mut Numbers) {

@@ -138,6 +138,11 @@ pub const FOR_NAME: u32 = 74;
 
 pub const FOR_RECORD: u32 = 75;
 
+// The weekly run: how many weeks the floor is behind, and the largest count of branches.
+pub const BEHIND: u32 = 76;
+
+pub const LARGEST: u32 = 77;
+
 // The place that the batch took last; how often another choice would have given another place, for four choices; the 16 places.
 pub const LAST_TAKEN: u32 = 37;
 
