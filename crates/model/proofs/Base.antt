@@ -57,10 +57,6 @@ module _ {A : Type 0} where
   unfolding keep
   keep-false k x xs e = rw e
 
-  pub keep-one : (k : A → Bool) (x : A) → k x ≡ true → keep k (x ∷ []) ≡ x ∷ []
-  unfolding keep
-  keep-one k x e = rw e
-
   pub mem-keep : (k : A → Bool) (x : A) (xs : List A) → x ∈ keep k xs → (x ∈ xs) × (k x ≡ true)
   unfolding keep
   mem-keep k x [] m = absurd m

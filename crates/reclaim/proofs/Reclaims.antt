@@ -17,11 +17,10 @@ use Rattle.model.specs.Lookup.{lookup, isGiven}
 use Rattle.model.specs.Wire.{reclaim, accepted}
 use Rattle.model.specs.Step.{headWith, stays, settled, closedUp, renumbered, reclaimed, doReclaim, step}
 use Rattle.model.specs.ByNumber.{SoundRows, Asc, Named, Sizes, Sound, branch, newestOf, held, First, Line, entry, Ascend, Names}
-use Rattle.model.proofs.Ancestry.{chain-of}
 use Rattle.model.proofs.Candidates.{given-deciding}
 use Rattle.rows.specs.Rows.{branchWidth, branchRowsOf, recordWidth, recordRowsOf, nameWidth, nameRowsOf, BranchesIn, RecordsIn, NamesIn}
 use Rattle.rows.proofs.Laws.{branch-kind, record-kind, name-kind, record-count, branch-count, name-count}
-use Rattle.model.proofs.ByNumber.{rows-line, held-by, asc-ascend, names-of}
+use Rattle.model.proofs.ByNumber.{rows-line, rows-first, held-by, asc-ascend, names-of}
 use Rattle.model.proofs.Base.{getD-mem, map-mem}
 use Rattle.branch_marks.specs.Marks.{Filled, Held, Placed}
 use Rattle.deciding.specs.Deciding.{given, keptRecord}
@@ -29,7 +28,7 @@ use Rattle.closing.specs.Closed.{marked, keepBy, renamed, ClosedRecords}
 use Rattle.rows.specs.View.{Tables, withBranches, withRecords, withPlaces, withNames, storeOf, recordGiven, Carried, refusedWith}
 use Rattle.reclaim.specs.Reclaimable.{Reclaimable}
 use Rattle.reclaim.specs.Settled.{settledRows, Settled}
-use Rattle.reclaim.proofs.Settles.{bit-test, first-row}
+use Rattle.reclaim.proofs.Settles.{bit-test}
 use Rattle.rows.proofs.Relaid.{laid-own, laid-rows}
 use Rattle.rows.proofs.View.{within-own, carried}
 use Rattle.rows.specs.declared.Found.the-variants.{Nothing}
@@ -126,7 +125,7 @@ module _ (h : Head) (t : Tables) where
           name-room = omega arith;
           name-count = omega arith;
           line = rows-line (h .floor) (h .now) bs (h .branches) rows-room sound-rows;
-          first = first-row (h .floor) bs (h .branches) rows-room (chain-of (h .floor) (h .now) (newestOf bs (h .branches)) sound-rows);
+          first = rows-first (h .floor) (h .now) bs (h .branches) rows-room (sd .sizes .counted-low) sound-rows;
           readable = held-by (h .floor) (h .now) m bs (h .branches) sound-rows (z .now-high) l u;
           named-held = record { each = moment-held };
           ascend = asc-ascend rs (h .records) records-room sound-asc;

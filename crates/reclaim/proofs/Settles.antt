@@ -1,8 +1,8 @@
 -- Rows cut anew and closed up by the marks of the branches that stay are settled.
 use mathlib.Core.Path.{_≡_, refl, ap, _∙_}
-use mathlib.Core.List.{List, _∷_}
+use mathlib.Core.List.{List}
 use mathlib.Core.Bool.{Bool, true, false}
-use Prim.Native.Nat.{ℕ, zero, suc, _≤_}
+use Prim.Native.Nat.{ℕ, _≤_}
 use native.Mathlib.Omega.{arith}
 use lib.Dec.{eqb}
 use lib.ListN.{length, take, drop, length-map}
@@ -10,13 +10,12 @@ use lib.Seq.{length-take-le}
 use borrow.Author.Tests.{eq-eqb}
 use Rattle.model.specs.declared.Branch.{Branch}
 use Rattle.model.specs.declared.Record.{Record}
-use Rattle.model.specs.Store.{keep, zero-branch}
+use Rattle.model.specs.Store.{keep}
 use Rattle.model.specs.Lookup.{holds}
 use Rattle.model.specs.Step.{stays, landing, withCut}
-use Rattle.model.specs.ByNumber.{branch, newestOf, First, Chain, Line}
+use Rattle.model.specs.ByNumber.{branch, newestOf, First, Line}
 use Rattle.model.proofs.Base.{length-keep}
 use Rattle.model.proofs.Ancestry.{→holds}
-use Rattle.model.proofs.ByNumber.{top}
 use Rattle.rows.specs.Rows.{branchRowsOf, BranchesIn, BranchesLaid}
 use Rattle.rows.proofs.Laws.{branch-kind, branch-count}
 use Rattle.rows.proofs.Relaid.{laid-rows, laid-then}
@@ -29,14 +28,6 @@ use Rattle.reclaim.specs.Settled.{settledRows, Settled}
 pub bit-test : (b : Bool) → eqb (bit b) 1 ≡ b
 bit-test true = refl
 bit-test false = refl
-
--- the first row of sound ones, by its number
-pub first-row : (floor : ℕ) (bs : List Branch) (n : ℕ) → n ≤ length bs → Chain floor (newestOf bs n) → First (branch bs 0)
-first-row floor bs zero l h = absurd h
-first-row floor bs (suc zero) l h = rw (top bs 0 zero-branch l) at h
-first-row floor bs (suc (suc k)) l h =
-    let e : newestOf bs (suc k) ≡ branch bs k ∷ newestOf bs k = top bs k zero-branch (omega arith) in
-    first-row floor bs (suc k) (omega arith) (rw e ((rw (top bs (suc k) zero-branch l, e) at h) .1))
 
 module _ (floor : ℕ) (named : List ℕ) (kept : List Record) {b : Branch} (one : First b) where
   first-holds : holds b (b .cut) ≡ true
