@@ -73,7 +73,14 @@ the name row behind the last\n\
 the order of the first two names\n\
 the moment that a naming answers with\n\
 the name rows of a fresh store\n\
-the name rows of a refused store";
+the name rows of a refused store\n\
+the rows of a reclaim, one gone that holds a kept record\n\
+the rows of a reclaim, one gone that holds a named moment\n\
+the rows of a reclaim, one gone that ends at the floor\n\
+the rows of a reclaim, the first gone\n\
+the rows of a reclaim, a cut not taken over\n\
+the rows of a reclaim, a cut taken over once only\n\
+the rows of a reclaim, all kept";
     io::write_all(1, b"a fault in ");
     say_line(names, fault);
     io::write_all(1, b": put into ");
