@@ -313,19 +313,17 @@ fn make_on(
 }
 
 // A fresh store of the sizes on trial over tables that the caller holds. Its refusal is noted as the stop number. Answers it.
-pub fn make_over(w: &mut Numbers, bt: &mut [u32], rt: &mut [u32], pt: &mut [u32], nt: &mut [u32], slab: &[u8]) -> u32
+pub fn make_over(
+    w: &mut Numbers,
+    bt: &mut [u32],
+    rt: &mut [u32],
+    pt: &mut [u32],
+    nt: &mut [u32],
+    slab: &[u8],
+) -> u32
     ensures { λ r. ⌜ r ≡ getD (now (w .exit)) 6 0 ⌝ }
 {
-    let made = make_on(
-        head(w),
-        get(w, SIZE),
-        lent_lengths(w),
-        bt,
-        rt,
-        pt,
-        nt,
-        slab,
-    );
+    let made = make_on(head(w), get(w, SIZE), lent_lengths(w), bt, rt, pt, nt, slab);
     note_head(w, made.head);
     put(w, STOP, made.refusal);
     number_at(w, STOP)

@@ -55,7 +55,11 @@ pub(crate) fn spot(w: &Numbers, fault: u32) -> u32 {
         52 => kept_for(w, 2, n),
         53 => kept_for(w, 1, n),
         54 | 55 => taken_over(w, fault, n),
-        _ => if n < get(w, COUNT_BEFORE) { AS_BEFORE } else { NOWHERE },
+        _ => if n < get(w, COUNT_BEFORE) {
+            AS_BEFORE
+        } else {
+            NOWHERE
+        },
     }
 }
 
@@ -72,8 +76,16 @@ fn kept_for(w: &Numbers, reason: u32, n: u32) -> u32 {
 // Why a row stays: 1 it is the first, 2 it ends at the floor, 4 it holds a named moment, 8 it holds a record, 16 it ends above the floor.
 fn reasons(w: &Numbers, row: u32) -> u32 {
     let first: u32 = if get(w, row) == 0 { 1 } else { 0 };
-    let named: u32 = if names_in(w, row, get(w, HEAD_NAMES)) == 0 { 0 } else { 4 };
-    let recorded: u32 = if records_in(w, row, get(w, HEAD_RECORDS)) == 0 { 0 } else { 8 };
+    let named: u32 = if names_in(w, row, get(w, HEAD_NAMES)) == 0 {
+        0
+    } else {
+        4
+    };
+    let recorded: u32 = if records_in(w, row, get(w, HEAD_RECORDS)) == 0 {
+        0
+    } else {
+        8
+    };
     let ends = by_end(get(w, plus(row, 1)), get(w, HEAD_FLOOR));
     plus(plus(first, named), plus(recorded, ends))
 }
@@ -92,7 +104,10 @@ fn one_where(yes: bool) -> u32 {
 fn names_in(w: &Numbers, row: u32, n: u32) -> u32 {
     let mut count: u32 = 0;
     for k in 0..n {
-        count = plus(count, one_where(holds(w, row, get(w, plus(name_row(k), 2)))));
+        count = plus(
+            count,
+            one_where(holds(w, row, get(w, plus(name_row(k), 2)))),
+        );
     }
     count
 }
@@ -100,7 +115,10 @@ fn names_in(w: &Numbers, row: u32, n: u32) -> u32 {
 fn records_in(w: &Numbers, row: u32, n: u32) -> u32 {
     let mut count: u32 = 0;
     for k in 0..n {
-        count = plus(count, one_where(holds(w, row, get(w, plus(record_row(k), 1)))));
+        count = plus(
+            count,
+            one_where(holds(w, row, get(w, plus(record_row(k), 1)))),
+        );
     }
     count
 }

@@ -113,7 +113,14 @@ pub fn run(w: &mut Numbers, behind: u32) -> u32
     number_at(w, LARGEST)
 }
 
-fn all_weeks(w: &mut Numbers, bt: &mut BranchTable, rt: &mut RecordTable, pt: &mut PlaceTable, nt: &mut NameTable, slab: &mut Slab) {
+fn all_weeks(
+    w: &mut Numbers,
+    bt: &mut BranchTable,
+    rt: &mut RecordTable,
+    pt: &mut PlaceTable,
+    nt: &mut NameTable,
+    slab: &mut Slab,
+) {
     let mut b = bytes();
     for k in 0..WEEKS {
         week(w, &mut b, bt, rt, pt, nt, slab, k);
@@ -193,7 +200,15 @@ fn list(w: &mut Numbers, n: u32) {
 }
 
 // A batch of the requests listed; its refusals and the branches are counted.
-fn hand_in(w: &mut Numbers, b: &mut Bytes, bt: &mut BranchTable, rt: &mut RecordTable, pt: &mut PlaceTable, nt: &mut NameTable, slab: &mut Slab) {
+fn hand_in(
+    w: &mut Numbers,
+    b: &mut Bytes,
+    bt: &mut BranchTable,
+    rt: &mut RecordTable,
+    pt: &mut PlaceTable,
+    nt: &mut NameTable,
+    slab: &mut Slab,
+) {
     encoding::encode(w, b);
     calls::ask_over(w, b, bt, rt, pt, nt, slab);
     count_answers(w, b, get(w, plus(STOP, 1)));

@@ -47,7 +47,7 @@ struct Spread {
 }
 
 // The families of the faults are the last: without names, with names, and with the rows that a reclaim leaves.
-const FAULT_FAMILY: u32 = 30;
+const FAULT_FAMILY: u32 = 31;
 
 fn numbers() -> [u32; 5632]
     ensures { λ r. ⌜ length r ≡ 5632 ⌝ }
@@ -87,7 +87,7 @@ fn in_family(k: u32) -> Spread {
         17 => lists_of(2, 1, 10, 1000),
         18 => lists_of(0, 18, 2, 324),
         19 => lists_of(2, 1, 40, 100),
-        30 => lists_of(0, 18, 2, 324),
+        31 => lists_of(0, 18, 2, 324),
         _ => with_names(k),
     }
 }
@@ -105,7 +105,8 @@ fn with_names(k: u32) -> Spread {
         27 => lists_of(2, 1, 10, 1000),
         28 => lists_of(0, 7, 3, 343),
         29 => lists_of(2, 1, 40, 50),
-        32 => lists_of(4, 1, 60, 50),
+        30 => lists_of(4, 1, 120, 400),
+        33 => lists_of(4, 1, 60, 100),
         _ => lists_of(0, 10, 3, 1000),
     }
 }
@@ -115,7 +116,7 @@ fn store_of(k: u32) -> u32 {
     match k {
         13 => 0,
         10 | 15 | 17 | 27 => 2,
-        16 | 19 | 26 | 29 | 32 => 3,
+        16 | 19 | 26 | 29 | 30 | 33 => 3,
         _ => 1,
     }
 }
@@ -126,14 +127,14 @@ fn first_of(k: u32) -> u32 {
         11 | 12 => 18,
         20..=22 => 23,
         23 | 24 => 33,
-        28 | 31 => 23,
+        28 | 32 => 23,
         _ => 0,
     }
 }
 
 fn called_of(k: u32) -> u32 {
     match k {
-        25 | 27 | 32 => 4,
+        25 | 27 => 4,
         26 | 29 => 128,
         _ => 0,
     }
@@ -204,7 +205,7 @@ fn run_family(w: &mut Numbers, k: u32) {
 }
 
 fn run_families(w: &mut Numbers) {
-    for k in 0..30u32 {
+    for k in 0..31u32 {
         run_family(w, k);
     }
 }
@@ -299,7 +300,7 @@ fn fault_family(fault: u32) -> u32 {
     }
 }
 
-// All lists of two letters of 18, or of three of the 10 with names, or lists drawn, with a fault in what the store gave.
+// All lists of two letters of 18, or of three of the 10 with names, or of an operator who sets back, with a fault in what the store gave.
 fn with_fault(w: &mut Numbers, fault: u32) {
     set_family(w, fault_family(fault));
     put(w, FAULT, fault);
@@ -358,7 +359,10 @@ fn say_weekly(w: &Numbers) {
 
 // The same branches where those on the way from now to the first stay.
 fn say_ways() {
-    io::write_all(1, b"weekly, where the branches on the way to the first stay: ");
+    io::write_all(
+        1,
+        b"weekly, where the branches on the way to the first stay: ",
+    );
     io::print_decimal(1, BRANCH_ROWS as u64);
     io::write_all(1, b" of them after ");
     io::print_decimal(1, ways::full_after(BRANCH_ROWS) as u64);
