@@ -1,7 +1,7 @@
 -- The laws of branch rows by index.
-use mathlib.Core.Path.{_≡_}
+use mathlib.Core.Path.{_≡_, sym}
 use mathlib.Core.List.{List, _∷_}
-use mathlib.Core.Bool.{true, false≢true}
+use mathlib.Core.Bool.{true, false, false≢true}
 use Prim.Native.Nat.{ℕ, zero, suc, _-_, _≤_, _<_}
 use native.Mathlib.Omega.{arith}
 use lib.Dec.{ltb, eqb}
@@ -31,6 +31,18 @@ holder-of bs (suc n) t l e =
     rw d (record { here = rw d; inside = omega (arith, s .inside); low = s .low; high = s .high }))
 
 module _ {bs : List Branch} {n : ℕ} (h : Stairs bs n) where
+  -- one row holds a moment
+  pub other-row : (t i j : ℕ) → i < n → j < n → holds (branch bs i) t ≡ true → (j ≡ i → ⊥) → holds (branch bs j) t ≡ false
+  other-row t i j a b y ne =
+      let k : Holds (branch bs i) t = holds→ (branch bs i) t y in
+      case (holds (branch bs j) t)
+      (λ e.
+      let x : Holds (branch bs j) t = holds→ (branch bs j) t e in
+      case (ltb i j)
+      (λ d. let l : i < j = ltb-true i j d in absurd (omega (arith, h .apart i j l b)))
+      (λ d. let l : j ≤ i = ltb-false i j d in absurd (omega (arith, h .apart j i (omega arith) a))))
+      (λ e. e)
+
   pub holder-is : (m t r : ℕ) → m ≤ n → r < m → branch bs r .start ≤ t → t ≤ branch bs r .end → r ≡ holder bs m t
   unfolding holder
   holder-is zero t r l i a b = absurd (omega arith)
@@ -43,12 +55,7 @@ module _ {bs : List Branch} {n : ℕ} (h : Stairs bs n) where
       rw d q)
       (λ e.
       let ne : r ≡ m → ⊥ = eqb-false r m e in
-      let j : r < m = omega arith in
-      case (holds (branch bs m) t)
-      (λ d.
-      let k : Holds (branch bs m) t = holds→ (branch bs m) t d in
-      absurd (omega (arith, h .apart r m j (omega arith))))
-      (λ d. rw d (ih j)))
+      rw (other-row t r m (omega arith) (omega arith) (→holds (branch bs r) t a b) (λ z. ne (sym z))) (ih (omega arith)))
 
   module _ {t s : ℕ} (k : Holder bs n t s) (mid : ℕ) (l : mid < n) where
     pub holder-up : branch bs mid .start ≤ t → mid ≤ s

@@ -1,5 +1,5 @@
 -- The laws of the marks of the rows that stay.
-use mathlib.Core.Path.{_≡_, refl, ap, sym, _∙_}
+use mathlib.Core.Path.{_≡_, refl, ap, _∙_}
 use mathlib.Core.List.{List, [], _∷_, _++_, map-append, append-nil}
 use mathlib.Core.Bool.{Bool, true, false, cond, _||_}
 use Prim.Native.Nat.{ℕ, suc, _+_, _≤_, _<_}
@@ -17,11 +17,11 @@ use Rattle.model.specs.Lookup.{holds}
 use Rattle.model.specs.Step.{stays}
 use Rattle.model.specs.ByNumber.{branch, entry, nameRow, Stairs}
 use Rattle.model.proofs.Base.{case, →or₂, keep-append, mem-map, getD-mem}
-use Rattle.model.proofs.Ancestry.{Holds, holds→, →holds}
+use Rattle.model.proofs.Ancestry.{holds→, →holds}
 use Rattle.closing.specs.Closed.{marked, keepBy}
 use Rattle.closing.proofs.Closing.{kept-more, kept-less}
 use Rattle.branch_marks.specs.Marks.{Holder, Filled, bit, heldToo, olderMoments, keptBranch}
-use Rattle.branch_marks.proofs.Holders.{holder-is}
+use Rattle.branch_marks.proofs.Holders.{other-row}
 use Rattle.branch_marks.proofs.Marking.{filled-set}
 
 or-no : (a : Bool) → (a || false) ≡ a
@@ -47,15 +47,6 @@ module _ (floor : ℕ) (b : Branch) where
   unfolding stays any
   stays-neither ne l = rw (ne-eqb (b .start) 0 ne, lt-leb floor (b .end) l)
 
--- one row holds a moment
-other-row : {bs : List Branch} {n t i : ℕ} → Stairs bs n → Holder bs n t i → (j : ℕ) → j < n → (j ≡ i → ⊥) → holds (branch bs j) t ≡ false
-other-row {bs} {n} {t} h k j l ne =
-    case (holds (branch bs j) t)
-    (λ d.
-    let y : Holds (branch bs j) t = holds→ (branch bs j) t d in
-    absurd (ne (holder-is h n t j (omega arith) l (y .low) (y .high) ∙ sym (k .here))))
-    (λ d. d)
-
 -- no moment marks nothing, and one more the row that holds it
 pub held-none : (bs : List Branch) {n : ℕ} {ms : List ℕ} → Filled (heldToo bs [] ms) n ms ms
 unfolding any
@@ -64,9 +55,10 @@ held-none bs = record { first = λ k l. refl; rest = λ k l. refl; long = refl }
 pub held-more : {bs : List Branch} {n t i : ℕ} {old new : List ℕ} (ts ms : List ℕ) → Stairs bs n → n ≤ length old → Holder bs n t i
     → Filled (heldToo bs ts ms) n old new → Filled (heldToo bs (ts ++ (t ∷ [])) ms) n old (set new i 1)
 held-more {bs} {n} {t} {i} ts ms h room k f =
+    let y : holds (branch bs i) t ≡ true = →holds (branch bs i) t (k .low) (k .high) in
     filled-set f (k .inside) room
-    (rw (any-snoc (holds (branch bs i)) ts t, →or₂ (any (holds (branch bs i)) ts) (→holds (branch bs i) t (k .low) (k .high))))
-    (λ j l ne. rw (any-snoc (holds (branch bs j)) ts t, other-row h k j l ne, or-no (any (holds (branch bs j)) ts)))
+    (rw (any-snoc (holds (branch bs i)) ts t, →or₂ (any (holds (branch bs i)) ts) y))
+    (λ j l ne. rw (any-snoc (holds (branch bs j)) ts t, other-row h t i j (k .inside) l y ne, or-no (any (holds (branch bs j)) ts)))
 
 -- the moments of the first names, one more
 pub names-more : (ns : List Name) (q : ℕ) → q < length ns → moments (take (suc q) ns) ≡ moments (take q ns) ++ (nameRow ns q .moment ∷ [])

@@ -16,12 +16,12 @@ use Rattle.model.specs.Lookup.{holds}
 use Rattle.model.specs.Step.{landing, withCut}
 use Rattle.model.specs.ByNumber.{branch, newestOf, held, Stairs, Line}
 use Rattle.model.proofs.Base.{case, keep-append, keep-true, keep-false}
-use Rattle.model.proofs.Ancestry.{Holds, holds→, →holds}
+use Rattle.model.proofs.Ancestry.{→holds}
 use Rattle.model.proofs.ByNumber.{top}
 use Rattle.closing.specs.Closed.{keepBy}
 use Rattle.closing.proofs.Closing.{kept-more, kept-less}
 use Rattle.branch_marks.specs.Marks.{holder, Holder}
-use Rattle.branch_marks.proofs.Holders.{holder-of}
+use Rattle.branch_marks.proofs.Holders.{holder-of, other-row}
 use Rattle.cuts.specs.Cuts.{landingBy, recut}
 
 -- what a cut becomes: the same by row number as by the rows newest first
@@ -37,13 +37,6 @@ landing-by left p bs (suc n) room e t =
 module _ (p : ℕ → Bool) (bs : List Branch) where
   -- one row holds a cut, and says what it becomes
   module _ {n : ℕ} (h : Stairs bs n) (t q : ℕ) (y : holds (branch bs q) t ≡ true) where
-    other-row : (i : ℕ) → q < i → i < n → holds (branch bs i) t ≡ false
-    other-row i a b =
-        let k : Holds (branch bs q) t = holds→ (branch bs q) t y in
-        case (holds (branch bs i) t)
-        (λ e. let j : Holds (branch bs i) t = holds→ (branch bs i) t e in absurd (omega (arith, h .apart q i a b)))
-        (λ e. e)
-
     pub landing-row : (i : ℕ) → q < i → i ≤ n → landingBy p bs i t ≡ cond (p q) t (landingBy p bs q (branch bs q .cut))
     unfolding landingBy
     landing-row zero a b = absurd (omega arith)
@@ -52,7 +45,7 @@ module _ (p : ℕ → Bool) (bs : List Branch) where
         (λ e. let z : i ≡ q = eqb-true i q e in rw (z, y))
         (λ e.
         let ne : i ≡ q → ⊥ = eqb-false i q e in
-        rw (other-row i (omega arith) (omega arith)) (landing-row i (omega arith) (omega arith)))
+        rw (other-row h t q i (omega arith) (omega arith) y ne) (landing-row i (omega arith) (omega arith)))
 
   -- rows cut anew: as many as before, the first m with their new cuts
   pub recut-length : (m : ℕ) → length (recut p bs m) ≡ length bs
