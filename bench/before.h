@@ -1,6 +1,7 @@
 /* The entries of the library as types and, where BEFORE is defined, an earlier archive under the present signatures. Its entries
    are renamed before_fresh and before_batch. An archive of version 0.2 or earlier has five areas: it gets the first 20 bytes of the
-   head, and no names, and serves stores that have none. One of 0.3 or later (BEFORE_NAMES) is called as it is. */
+   head, and no names, and serves stores that have none. One of 0.3 or later (BEFORE_NAMES) is called as it is. An archive of before
+   0.4 keeps more branches in a reclaim: unless BEFORE_WEEKLY is defined, branch rows and their count are not compared with its. */
 #ifndef BENCH_BEFORE_H
 #define BENCH_BEFORE_H
 

@@ -1,7 +1,7 @@
-/* What a reclaim keeps. Branches: newest to oldest, one that ends at or above the floor or holds a named moment, and the
-   parent of a kept one. Records by the slow method, an address at a time: those from the floor on, what the lookups at the
+/* What a reclaim keeps. Records by the slow method, an address at a time: those from the floor on, what the lookups at the
    floor and at the named moments give, and what is found at the start of each branch that begins above the floor.
-   fast_marks.c has the fast method. */
+   fast_marks.c has the fast method. Then the branches: the first, one that ends at or above the floor, holds a named moment or
+   a kept record; where a parent goes, its cut is taken over, from the oldest row to the newest. */
 #include "store.h"
 
 size_t row_holding(const struct branch *rows, size_t n, uint32_t moment)
@@ -17,19 +17,25 @@ size_t row_holding(const struct branch *rows, size_t n, uint32_t moment)
     return lo;
 }
 
-void mark_branches(struct marking *m)
+void find_parents(struct marking *m)
 {
     m->parent[0] = 0;
-    for (size_t i = 0; i < m->n; i++) {
-        m->kept[i] = 0;
-        if (i > 0)
-            m->parent[i] = (uint32_t)row_holding(m->rows, i, m->rows[i].cut);
-    }
+    for (size_t i = 1; i < m->n; i++)
+        m->parent[i] = (uint32_t)row_holding(m->rows, i, m->rows[i].cut);
+}
+
+void mark_branches(struct marking *m, const uint32_t *moments, size_t count, const uint8_t *kept)
+{
+    for (size_t i = 0; i < m->n; i++)
+        m->kept[i] = i == 0 || m->rows[i].end >= m->floor;
     for (size_t i = 0; i < m->named_count; i++)
         m->kept[row_holding(m->rows, m->n, m->named[i])] = 1;
-    for (size_t i = m->n; i-- > 0;)
-        if (m->kept[i] || m->rows[i].end >= m->floor)
-            m->kept[i] = m->kept[m->parent[i]] = 1;
+    for (size_t k = 0; k < count; k++)
+        if (kept[k] && moments[k] < m->floor)
+            m->kept[row_holding(m->rows, m->n, moments[k])] = 1;
+    m->cut[0] = m->rows[0].cut;
+    for (size_t i = 1; i < m->n; i++)
+        m->cut[i] = m->kept[m->parent[i]] ? m->rows[i].cut : m->cut[m->parent[i]];
 }
 
 /* One more than the last of the group's records with a moment from `from` to `to`, else `other`. */

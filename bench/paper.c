@@ -268,7 +268,7 @@ static uint32_t reclaim(uint32_t floor)
         ok(code);
     ok(c->close(c));
     m.named_count = named_moments(m.named);
-    mark_branches(&m);
+    find_parents(&m);
 
     uint32_t freed = 0;
     size_t count = 0;
@@ -284,6 +284,7 @@ static uint32_t reclaim(uint32_t floor)
         ok(code);
     ok(c->close(c));
     mark_records(&m, addresses, moments, count, kept);
+    mark_branches(&m, moments, count, kept);
     for (size_t i = 0; i < count; i++)
         if (!kept[i]) {
             uint8_t old[8];
@@ -299,6 +300,8 @@ static uint32_t reclaim(uint32_t floor)
             put32(key, m.rows[i].start);
             DBT o = dbt(key, 4);
             ok(branches->del(branches, NULL, &o, 0));
+        } else if (m.cut[i] != m.rows[i].cut) {
+            put_branch(m.rows[i].start, m.rows[i].end, m.rows[row_holding(m.rows, i, m.cut[i])].start, m.cut[i]);
         }
     return freed;
 }

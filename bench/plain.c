@@ -214,12 +214,13 @@ static unsigned reclaim(struct areas *s, uint32_t floor, uint32_t *freed)
     m.named_count = head_names(s);
     for (size_t i = 0; i < m.named_count; i++)
         m.named[i] = name_at(s, i).moment;
-    mark_branches(&m);
+    find_parents(&m);
     for (size_t i = 0; i < n; i++) {
         addresses[i] = get32(s->records + 12 * i);
         moments[i] = get32(s->records + 12 * i + 4);
     }
     mark_records(&m, addresses, moments, n, kept);
+    mark_branches(&m, moments, n, kept);
     for (size_t i = 0; i < n; i++) {
         struct record r = record_at(s, i);
         if (kept[i])
@@ -232,7 +233,7 @@ static unsigned reclaim(struct areas *s, uint32_t floor, uint32_t *freed)
     w = 0;
     for (size_t i = 0; i < m.n; i++)
         if (m.kept[i])
-            set_branch(s, w++, m.rows[i]);
+            set_branch(s, w++, (struct branch){m.rows[i].start, m.rows[i].end, m.cut[i]});
     memset(s->branches + 12 * w, 0, 12 * (m.n - w));
     put32(s->head + 4, (uint32_t)w);
     put32(s->head + 16, floor);

@@ -6,7 +6,7 @@
 
 static sqlite3 *db;
 static sqlite3_stmt *begin, *commit, *holder, *latest, *put_record, *put_branch, *close_branch;
-static sqlite3_stmt *drop_record, *drop_branch, *all_branches, *all_records, *put_name, *moment_named, *drop_name, *all_names;
+static sqlite3_stmt *drop_record, *drop_branch, *recut_branch, *all_branches, *all_records, *put_name, *moment_named, *drop_name, *all_names;
 static uint32_t now;
 
 static void ok(int code)
@@ -91,6 +91,7 @@ static void load(const struct areas *s)
     close_branch = prepared("update branches set last = ?1 where start = (select max(start) from branches)");
     drop_record = prepared("delete from records where address = ?1 and moment = ?2");
     drop_branch = prepared("delete from branches where start = ?1");
+    recut_branch = prepared("update branches set cut = ?2 where start = ?1");
     all_branches = prepared("select start, last, cut from branches order by start");
     all_records = prepared("select address, moment from records order by address, moment");
     put_name = prepared("insert into names values (?1, ?2)");
@@ -155,7 +156,7 @@ static uint32_t reclaim(uint32_t floor)
     while (sqlite3_step(all_names) == SQLITE_ROW)
         m.named[m.named_count++] = column(all_names, 0);
     ok(sqlite3_reset(all_names));
-    mark_branches(&m);
+    find_parents(&m);
     size_t n = 0;
     while (sqlite3_step(all_records) == SQLITE_ROW) {
         addresses[n] = column(all_records, 0);
@@ -163,6 +164,7 @@ static uint32_t reclaim(uint32_t floor)
     }
     ok(sqlite3_reset(all_records));
     mark_records(&m, addresses, moments, n, kept);
+    mark_branches(&m, moments, n, kept);
     uint32_t freed = 0;
     for (size_t i = 0; i < n; i++)
         if (!kept[i]) {
@@ -175,6 +177,10 @@ static uint32_t reclaim(uint32_t floor)
         if (!m.kept[i]) {
             bind(drop_branch, 1, m.rows[i].start);
             once(drop_branch);
+        } else if (m.cut[i] != m.rows[i].cut) {
+            bind(recut_branch, 1, m.rows[i].start);
+            bind(recut_branch, 2, m.cut[i]);
+            once(recut_branch);
         }
     return freed;
 }

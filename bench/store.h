@@ -126,11 +126,14 @@ struct marking {
     uint32_t floor, named[KIZMOOLET_MOST_NAMES];
     struct branch rows[4096];
     uint32_t parent[4096];
-    uint8_t kept[4096];
     uint32_t inherited[4096];
+    uint8_t kept[4096];
+    uint32_t cut[4096];
 };
 size_t row_holding(const struct branch *rows, size_t n, uint32_t moment);
-void mark_branches(struct marking *m); /* from n, floor, named moments and rows: parent and kept */
+void find_parents(struct marking *m); /* from n and rows */
+/* From all that and the kept records: the branches that stay, and what their cuts become. */
+void mark_branches(struct marking *m, const uint32_t *moments, size_t count, const uint8_t *kept);
 /* Which of the records, in order of address and moment, are kept: by spans (fast_marks.c), or where `marks_by_groups` is set
    an address at a time (marks.c). */
 extern int marks_by_groups;

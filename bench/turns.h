@@ -1,5 +1,5 @@
 /* Batches timed in turns: the library, plain C and, where BEFORE is defined, an earlier library, each on the same store, with the
-   answers and all six areas compared byte for byte after every batch. Whoever includes it says before it BATCH_BYTES and
+   answers and all six areas compared byte for byte after every batch (of an earlier library see before.h). Whoever includes it says before it BATCH_BYTES and
    ANSWERS_BYTES, the most bytes of a batch and of its answers, and SLAB_STAYS where no batch writes to the slab. */
 #include <time.h>
 #include "before.h"
@@ -31,9 +31,14 @@ static void copy_tables(struct areas *to, const struct areas *from)
     memcpy(to->head, from->head, sizeof to->head);
 }
 
-static int same_areas(const struct areas *a, const struct areas *b)
+static int same_branches(const struct areas *a, const struct areas *b)
 {
-    return memcmp(a->head, b->head, sizeof a->head) == 0 && memcmp(a->branches, b->branches, a->branches_len) == 0
+    return memcmp(a->head + 4, b->head + 4, 4) == 0 && memcmp(a->branches, b->branches, a->branches_len) == 0;
+}
+
+static int same_others(const struct areas *a, const struct areas *b)
+{
+    return memcmp(a->head, b->head, 4) == 0 && memcmp(a->head + 8, b->head + 8, sizeof a->head - 8) == 0
         && memcmp(a->records, b->records, a->records_len) == 0 && memcmp(a->places, b->places, a->places_len) == 0
         && memcmp(a->names, b->names, sizeof a->names) == 0 && memcmp(a->slab, b->slab, a->slab_len) == 0;
 }
@@ -89,11 +94,22 @@ static void keep_first(void)
     answer_bytes_left = answer_bytes;
 }
 
-static void compare(void)
+/* Whether contender c keeps the branches that the library keeps. */
+static int keeps_same(int c)
+{
+#if defined BEFORE && !defined BEFORE_WEEKLY
+    return c != EARLIER;
+#else
+    (void)c;
+    return 1;
+#endif
+}
+
+static void compare(int c)
 {
     if (answered != answered_left || answer_bytes != answer_bytes_left || memcmp(answers, answers_left, sizeof answers) != 0)
         fail("two contenders give different answers");
-    if (!same_areas(&used, &left))
+    if (!same_others(&used, &left) || (keeps_same(c) && !same_branches(&used, &left)))
         fail("two contenders leave different stores");
 }
 
@@ -102,14 +118,14 @@ static void take_turns(int n, int repetitions)
 {
     double once = time_batch(contenders[LIBRARY]);
     int runs = once < 5e-4 ? (int)(5e-4 / (once + 1e-6)) + 1 : 1;
-    compare();
+    compare(LIBRARY);
     for (int r = 0; r < repetitions; r++)
         for (int turn = 0; turn < n; turn++) {
             int c = (turn + r) % n;
             times[c][r] = 0;
             for (int run = 0; run < runs; run++) {
                 times[c][r] += time_batch(contenders[c]) / runs;
-                compare();
+                compare(c);
             }
         }
 }

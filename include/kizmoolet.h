@@ -48,7 +48,8 @@
  *   head      24 bytes: volume size A (1 to 65,536), branch count, record count, now, floor, name count (0 to 32). A batch
  *             brings it up to date. Moments from the floor to now can be read, and moments that have a name.
  *   branches  12 bytes a row, 1 to 4,096 rows: start, end, cut. Start and end are the first and last moment of the branch
- *             (the end of the open one is 4,294,967,295), the cut is the moment reverted to.
+ *             (the end of the open one is 4,294,967,295), the cut is the moment reverted to, or an earlier one, where a reclaim
+ *             dropped the branch of that moment.
  *   records   12 bytes a row, 1 to 65,536 rows: address, moment, place. Ascending by address, then moment.
  *   places    4 bytes a row, 1 to 65,536 rows: 0 is free, k means that record row k - 1 (counted from 0) uses the place.
  *   names     384 bytes, 32 rows of 12: the 8 bytes of a name, then the moment that it stands for. In the order given.
@@ -56,6 +57,18 @@
  *
  * The rows lent are the length of a table; the head's counts say how many of them are in use. A record is needed for each
  * page written at each moment, and a branch for each revert, until a reclaim frees them.
+ *
+ *
+ * WHAT A RECLAIM LEAVES
+ *
+ * Of the records those that a read from the new floor to now, or at a named moment, gives. Of the branches the first one, those
+ * that end at the new floor or above, those that hold a named moment, and those that hold a record that stays. No other row is
+ * counted right after an accepted reclaim. Where a branch goes, each branch whose cut lies in it takes over its cut, again and
+ * again until that lies in a branch that stays. Starts and ends do not change, nor does any page that can be read. So a host
+ * that reverts every week into the branch of the week before needs, besides the rows of the weeks since the floor, no more than
+ * one for each record kept and for each name, and the first. A host whose revert is refused (7) reclaims, and reverts again, or
+ * goes on with a copy over more rows. After a withdrawal, or in a store that a version before 0.4.0 has reclaimed, also a
+ * reclaim to the floor as it is may drop branches; that gives up no moment.
  *
  *
  * PAGES PACKED TOWARDS THE FRONT
@@ -92,7 +105,7 @@
  *   4 read     address, moment                         the page at that moment                 answer: the moment asked, and the
  *                                                                                              page with its date if there is one
  *   5 reclaim  moment                                  makes it the floor, frees what no read  answer: how many records it freed
- *                                                      from there to now, or at a name, gives
+ *                                                      from there to now, or at a name, gives  (the head has the branches left)
  *   6 name     moment; the name's 8 bytes follow       gives the moment the name               answer: the moment
  *   7 withdraw the name's 8 bytes follow               takes the name back                     answer: the moment it stood for
  *
@@ -118,9 +131,9 @@
 #include <stdint.h>
 
 /* The version of this header and of the archive beside it; CHANGELOG.md says what changed. */
-#define KIZMOOLET_VERSION "0.3.0"
+#define KIZMOOLET_VERSION "0.4.0"
 #define KIZMOOLET_VERSION_MAJOR 0
-#define KIZMOOLET_VERSION_MINOR 3
+#define KIZMOOLET_VERSION_MINOR 4
 #define KIZMOOLET_VERSION_PATCH 0
 
 #define KIZMOOLET_OK 0u
@@ -135,7 +148,7 @@
 #define KIZMOOLET_ADDRESS_TOO_HIGH 4u   /* write, read: address at or above A */
 #define KIZMOOLET_RECORDS_FULL 5u       /* write: it needs a row, and the record table is full */
 #define KIZMOOLET_PLACES_FULL 6u        /* write: it needs a place, and none is free */
-#define KIZMOOLET_BRANCHES_FULL 7u      /* revert: the branch table is full */
+#define KIZMOOLET_BRANCHES_FULL 7u      /* revert: the branch table is full (WHAT A RECLAIM LEAVES says what makes room) */
 #define KIZMOOLET_MOMENT_TOO_EARLY 8u   /* read, revert, name: moment below the floor, and it has no name; reclaim: moment below the
                                            floor */
 #define KIZMOOLET_MOMENT_TOO_LATE 9u    /* read, reclaim: moment above now; revert, name: moment now or above */

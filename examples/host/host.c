@@ -2,8 +2,8 @@
 
      host new IMAGE SIZE BRANCHES RECORDS PLACES   make the image of a fresh store
      host run [OPTIONS] IMAGE [ANSWER_BYTES]       standard input is one batch; the answers and then one byte, the stop
-                                                   number, go to standard output; the stop number and the counts go to
-                                                   standard error
+                                                   number, go to standard output; the stop number, the counts, and the
+                                                   branches before and after go to standard error
      host grow IMAGE BRANCHES RECORDS PLACES       the same store over larger tables
      host copy IMAGE TO [BRANCHES RECORDS PLACES]  a copy of the store in the new file TO, without what lies in the slab
                                                    behind the last page in use; with larger tables if they are given
@@ -530,6 +530,10 @@ struct options {
 
 static const char *several(uint64_t count) { return count == 1 ? "" : "s"; }
 
+static uint32_t branch_count(const struct image *image) {
+    return number_at(image->bytes + HEADER + KIZMOOLET_HEAD_BRANCHES_AT);
+}
+
 static int run(const char *path, const char *limit, const struct options *options) {
     size_t batch_len, first_end = 0;
     uint8_t *batch = read_batch(&batch_len);
@@ -568,10 +572,14 @@ static int run(const char *path, const char *limit, const struct options *option
     answers[done.answer_bytes] = (uint8_t)done.stop;
     if (write_all(1, answers, (size_t)done.answer_bytes + 1) != 0)
         fail(4, "the answers could not be written: %s; the requests are carried out", strerror(errno));
-    fprintf(stderr, "stop %lu: %llu request%s answered, %llu refused, %llu bytes of requests, %llu bytes of answers%s\n",
+    fprintf(stderr, "stop %lu: %llu request%s answered, %llu refused, %llu bytes of requests, %llu bytes of answers%s",
         (unsigned long)done.stop, (unsigned long long)done.answered, several(done.answered), (unsigned long long)refused,
         (unsigned long long)done.request_bytes, (unsigned long long)done.answer_bytes,
         undone ? "; nothing was carried out" : "");
+    if (!undone && (done.stop == KIZMOOLET_OK || done.stop >= KIZMOOLET_CUT_SHORT)) /* the tables are sound */
+        fprintf(stderr, "; branches: %lu before, %lu after", (unsigned long)branch_count(&before),
+            (unsigned long)branch_count(&image));
+    fputc('\n', stderr);
     return undone ? 6 : done.stop ? 3 : refused ? 5 : 0;
 }
 

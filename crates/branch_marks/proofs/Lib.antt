@@ -1,2 +1,3 @@
 pub mod Holders
 pub mod Marking
+pub mod Staying

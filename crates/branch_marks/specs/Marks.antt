@@ -1,14 +1,16 @@
--- Branches by row number: the branch that holds a moment, the parent of a branch, and the branches that a list of moments needs.
+-- Branches by row number: the branch that holds a moment, the parent of a branch, and the branches that stay.
 use mathlib.Core.Path.{_≡_}
-use mathlib.Core.List.{List}
+use mathlib.Core.List.{List, map}
 use mathlib.Core.Bool.{Bool, true, cond}
 use Prim.Native.Nat.{ℕ, zero, suc, _≤_, _<_}
-use lib.Dec.{eqb}
+use lib.Dec.{ltb}
 use lib.ListN.{length, getD}
 use Rattle.model.specs.declared.Branch.{Branch}
-use Rattle.model.specs.Store.{any, _∈_}
-use Rattle.model.specs.Lookup.{holds, inAncestry}
-use Rattle.model.specs.ByNumber.{branch, newestOf, held}
+use Rattle.model.specs.declared.Record.{Record}
+use Rattle.model.specs.Store.{keep, any, _∈_}
+use Rattle.model.specs.Lookup.{holds}
+use Rattle.model.specs.Step.{stays}
+use Rattle.model.specs.ByNumber.{branch, entry, held}
 
 -- the newest of the first n rows that holds the moment t
 unfoldable pub holder : List Branch → ℕ → ℕ → ℕ
@@ -30,9 +32,9 @@ bit b = cond b 1 0
 pub record Held (bs : List Branch) (n : ℕ) (moments : List ℕ) : Type 0 where
   pub each : (t : ℕ) → t ∈ moments → held bs n t ≡ true
 
--- the branch that starts at x is in the ancestry of one of the moments
-unfoldable pub wanted : List Branch → ℕ → List ℕ → ℕ → Bool
-wanted bs n moments x = any (λ t. inAncestry (newestOf bs n) t x) moments
+-- the moments of the records are held
+pub record Placed (bs : List Branch) (n : ℕ) (rs : List Record) (nr : ℕ) : Type 0 where
+  pub each : (k : ℕ) → k < nr → held bs n (entry rs k .moment) ≡ true
 
 -- a table whose first n numbers are f 0, f 1, .., the others as they were
 pub record Filled (f : ℕ → ℕ) (n : ℕ) (old new : List ℕ) : Type 0 where
@@ -54,10 +56,14 @@ pub record Zeros (n : ℕ) (t : List ℕ) : Type 0 where
 abbrev pub parentOf : List Branch → ℕ → ℕ
 parentOf bs i = holder bs i (branch bs i .cut)
 
--- the byte of a branch that holds one of the moments
-abbrev pub holderByte : List Branch → ℕ → List ℕ → ℕ → ℕ
-holderByte bs n moments i = bit (any (λ t. eqb (holder bs n t) i) moments)
+-- the byte of a branch: 1 where it holds one of the moments, else as it was
+abbrev pub heldToo : List Branch → List ℕ → List ℕ → ℕ → ℕ
+heldToo bs moments marks i = cond (any (holds (branch bs i)) moments) 1 (getD marks i 0)
 
--- the byte of a branch in the ancestry of one of the moments
-abbrev pub keptBranch : List Branch → ℕ → List ℕ → ℕ → ℕ
-keptBranch bs n moments i = bit (wanted bs n moments (branch bs i .start))
+-- the moments of the records that are older than the floor
+abbrev pub olderMoments : ℕ → List Record → List ℕ
+olderMoments floor rs = map (λ r. r .moment) (keep (λ r. ltb (r .moment) floor) rs)
+
+-- the byte of a branch: 1 where it stays
+abbrev pub keptBranch : List Branch → ℕ → List ℕ → List Record → ℕ → ℕ
+keptBranch bs floor named kept i = bit (stays floor named kept (branch bs i))

@@ -25,4 +25,5 @@ fn main() {
     case(b"names");
     case(b"stop-11-name");
     case(b"stop-13-name");
+    case(b"weekly");
 }

@@ -14,9 +14,9 @@ use Rattle.model.specs.Store.{zero-record, keep}
 use Rattle.model.proofs.Base.{case}
 use Rattle.model.proofs.Places.{getD-map-lt}
 use Rattle.model.specs.Step.{closedUp, renumbered}
-use Rattle.rows.specs.Rows.{branchRowsOf, recordRowsOf, BranchesIn, RecordsIn}
-use Rattle.rows.proofs.Laws.{record-count, branch-count}
-use Rattle.closing.specs.Closed.{marked, keepBy, renamed, ClosedRecords, ClosedBranches}
+use Rattle.rows.specs.Rows.{recordRowsOf, RecordsIn}
+use Rattle.rows.proofs.Laws.{record-count}
+use Rattle.closing.specs.Closed.{marked, keepBy, renamed, ClosedRecords}
 use Rattle.model.specs.ByNumber.{Names}
 
 module _ {A : Type 0} where
@@ -237,11 +237,6 @@ module _ (p : ℕ → Bool) (rs : List Record) where
             rw (g v l, t, e)
 
 -- what is kept is no more than there was
-pub count-branches : {ms : List ℕ} {n : ℕ} {bt bt′ : List ℕ} {w : ℕ} → ClosedBranches ms n bt bt′ w → BranchesIn n bt → w ≤ n
-count-branches {ms} {n} {bt} c l =
-    let n′ : length (take n (branchRowsOf bt)) ≡ n = length-take-le n (branchRowsOf bt) (omega (arith, branch-count bt)) in
-    omega (arith, c .count, length-keepBy (marked ms) (take n (branchRowsOf bt)))
-
 pub count-records : {ms : List ℕ} {n : ℕ} {rt rt′ ps ps′ : List ℕ} {w : ℕ} → ClosedRecords ms n rt rt′ ps ps′ w → RecordsIn n rt → w ≤ n
 count-records {ms} {n} {rt} c l =
     let n′ : length (take n (recordRowsOf rt)) ≡ n = length-take-le n (recordRowsOf rt) (omega (arith, record-count rt)) in

@@ -1,7 +1,7 @@
 -- The laws of the marks of a reclaim.
 use mathlib.Core.Path.{_≡_, refl, ap, sym, _∙_}
 use mathlib.Core.Logic.{_⊎_, inl, inr}
-use mathlib.Core.List.{List, [], _∷_, _++_, map, map-append, append-assoc, append-nil}
+use mathlib.Core.List.{List, [], _∷_, _++_, map, append-assoc, append-nil}
 use mathlib.Core.Bool.{Bool, true, false, _||_}
 use Prim.Native.Nat.{ℕ, zero, suc, _+_, _-_, _≤_, _<_}
 use native.Mathlib.Omega.{arith}
@@ -9,19 +9,19 @@ use native.Mathlib.Nat.{add-zero, add-suc}
 use native.Mathlib.Numerals.{add-one}
 use lib.Dec.{leb, ltb, eqb}
 use lib.ListN.{length, getD, set, take, length-set, length-map}
-use lib.Seq.{getD-set-other, take-suc, take-suc-set, length-take-le}
+use lib.Seq.{getD-set-other, take-suc-set, length-take-le}
 use borrow.Author.Tests.{leb-true, ltb-true, ltb-false, eqb-true, eqb-false, le-leb, lt-leb, lt-ltb, le-ltb}
 use Rattle.model.specs.declared.Branch.{Branch}
 use Rattle.model.specs.declared.Record.{Record}
 use Rattle.model.specs.declared.Name.{Name}
-use Rattle.model.specs.Store.{zero-branch, zero-name, moments, keep, any, _∈_}
+use Rattle.model.specs.Store.{zero-branch, moments, keep, any, _∈_}
 use Rattle.model.specs.Lookup.{holds, isAt}
 use Rattle.model.proofs.Base.{case, and→, mem-append}
 use Rattle.model.specs.ByNumber.{find, candidates, deciding, branch, entry, nameRow, newestOf, held, Line}
 use Rattle.model.proofs.Ancestry.{→holds}
 use Rattle.model.proofs.ByNumber.{top, any-yes}
-use Rattle.branch_marks.specs.Marks.{Filled, bit, keptBranch}
-use Rattle.branch_marks.specs.Marks.{Held}
+use Rattle.branch_marks.specs.Marks.{Filled, Held, bit}
+use Rattle.branch_marks.proofs.Staying.{names-more}
 use Rattle.record_marks.specs.Marks.{givenRow}
 use Rattle.deciding.specs.Deciding.{noneOlder, given, keptRecord, youngToo, Started, Behind}
 
@@ -136,9 +136,7 @@ behind-step ns c j {v} {old} {table} b l r e =
     }
   where
     more : moments (take (suc j) ns) ≡ moments (take j ns) ++ (v ∷ [])
-    more =
-        ap moments (take-suc ns j zero-name l)
-        ∙ (map-append (λ (n : Name). n .moment) (take j ns) (nameRow ns j ∷ []) ∙ ap (λ (x : ℕ). moments (take j ns) ++ (x ∷ [])) (sym e))
+    more = names-more ns j l ∙ ap (λ (x : ℕ). moments (take j ns) ++ (x ∷ [])) (sym e)
 
 -- starts, and names behind them
 pub both-listed : {bs : List Branch} {n m c r : ℕ} {named old mid table : List ℕ} → Started bs n m c old mid → Behind named c r mid table → r ≤ length old → Deciding bs n m named r table
@@ -178,11 +176,6 @@ deciding-held {bs} {n} {m} {r} {named} {table} h room hm hn d =
   where
     start-held : (i : ℕ) → i < n → held bs n (branch bs i .start) ≡ true
     start-held i l = row-held bs n (branch bs i .start) i room l (omega arith) (h .stairs .ordered i l)
-
--- the branches by the moments listed are those by the moments that decide
-pub kept-branches : {bs : List Branch} {n m r : ℕ} {named table old new : List ℕ} → Deciding bs n m named r table
-    → Filled (keptBranch bs n (take r table)) n old new → Filled (keptBranch bs n (deciding named m (newestOf bs n))) n old new
-kept-branches d f = rw (d .moments) at f
 
 -- a byte of the marks with the young ones
 young-or : (rs : List Record) (m : ℕ) (mid : List ℕ) (k : ℕ) (x : Bool) → getD mid k 0 ≡ bit x → youngToo rs m mid k ≡ bit (leb m (entry rs k .moment) || x)

@@ -4,15 +4,15 @@ use mathlib.Core.Path.{_≡_, refl}
 use mathlib.Core.Logic.{_⊎_, inl, inr}
 use mathlib.Core.List.{List, [], _∷_}
 use mathlib.Core.Option.{some}
-use mathlib.Core.Bool.{Bool, true, false, cond, false≢true}
+use mathlib.Core.Bool.{true, false, false≢true}
 use native.Mathlib.Omega.{arith}
-use lib.Dec.{leb, eqb}
-use borrow.Author.Tests.{leb-true, le-leb, eq-eqb}
+use lib.Dec.{leb}
+use borrow.Author.Tests.{leb-true, le-leb}
 use Rattle.model.specs.declared.Branch.{Branch}
 use Rattle.model.specs.declared.Record.{Record}
-use Rattle.model.specs.Store.{keep, any, _∈_}
-use Rattle.model.specs.Lookup.{holds, ancestry, orElse, latest, firstFound, inAncestry}
-use Rattle.model.specs.ByNumber.{Link, Chain, Falls, find}
+use Rattle.model.specs.Store.{any, _∈_}
+use Rattle.model.specs.Lookup.{holds, ancestry, orElse, latest, firstFound}
+use Rattle.model.specs.ByNumber.{Link, Chain, SoundRows, Falls, find}
 use Rattle.model.proofs.Base.{case, and→, →and}
 use Rattle.model.proofs.Latest.{orElse→, Within, latest→}
 
@@ -49,6 +49,10 @@ any-head b bs x e = rw e
 pub any-tail : (b : Branch) (bs : List Branch) (x : ℕ) → any (λ d. holds d x) bs ≡ true → any (λ d. holds d x) (b ∷ bs) ≡ true
 unfolding any
 any-tail b bs x e = case (holds b x) (λ d. rw d) (λ d. rw (d, e))
+
+pub chain-of : (floor now : ℕ) (bs : List Branch) → SoundRows floor now bs → Chain floor bs
+chain-of floor now [] h = absurd h
+chain-of floor now (b ∷ bs) h = h .1
 
 pub chain-ordered : (floor : ℕ) (b : Branch) (bs : List Branch) → Chain floor (b ∷ bs) → b .start ≤ b .end
 chain-ordered floor b [] h = h .ordered
@@ -127,32 +131,18 @@ find→ rs a (b ∷ bs) f t r e =
     let ih : Found rs a t bs r = find→ rs a bs (f .1) t r (rw d at e) in
     record { counted = ih .counted; at = ih .at; upTo = ih .upTo; held = any-tail b bs (r .moment) (ih .held) })
 
--- ancestries over the rows that are kept by their starts
-pub inAncestry-hold : (b : Branch) (bs : List Branch) (t x : ℕ) → holds b t ≡ true → inAncestry (b ∷ bs) t x ≡ cond (eqb (b .start) x) true (inAncestry bs (b .cut) x)
-unfolding inAncestry ancestry any
-inAncestry-hold b bs t x e = rw e
+pub record Below (b d : Branch) : Type 0 where
+  pub ordered : d .start ≤ d .end
+  pub below : d .end < b .start
 
-pub inAncestry-skip : (b : Branch) (bs : List Branch) (t x : ℕ) → holds b t ≡ false → inAncestry (b ∷ bs) t x ≡ inAncestry bs t x
-unfolding inAncestry ancestry any
-inAncestry-skip b bs t x e = rw e
-
-pub inAncestry-here : (b : Branch) (bs : List Branch) (t : ℕ) → holds b t ≡ true → inAncestry (b ∷ bs) t (b .start) ≡ true
-inAncestry-here b bs t e = rw (inAncestry-hold b bs t (b .start) e, eq-eqb (b .start) (b .start) refl)
-
-pub inAncestry-next : (b : Branch) (bs : List Branch) (t x : ℕ) → holds b t ≡ true → inAncestry bs (b .cut) x ≡ true → inAncestry (b ∷ bs) t x ≡ true
-inAncestry-next b bs t x e o = rw (inAncestry-hold b bs t x e) (case (eqb (b .start) x) (λ d. rw d) (λ d. rw (d, o)))
-
-abbrev pub startKept : (ℕ → Bool) → Branch → Bool
-startKept κ b = κ (b .start)
-
-pub ancestry-keep : (κ : ℕ → Bool) (bs : List Branch) (t : ℕ) → ((x : ℕ) → inAncestry bs t x ≡ true → κ x ≡ true) → ancestry (keep (startKept κ) bs) t ≡ ancestry bs t
-unfolding ancestry keep
-ancestry-keep κ [] t h = refl
-ancestry-keep κ (b ∷ bs) t h =
-    case (holds b t)
-    (λ e.
-    let k : κ (b .start) ≡ true = h (b .start) (inAncestry-here b bs t e) in
-    rw (k, e, ancestry-keep κ bs (b .cut) (λ x o. h x (inAncestry-next b bs t x e o))))
-    (λ e.
-    let ih : ancestry (keep (startKept κ) bs) t ≡ ancestry bs t = ancestry-keep κ bs t (λ x o. h x (rw (inAncestry-skip b bs t x e) o)) in
-    case (κ (b .start)) (λ d. rw (d, e) ih) (λ d. rw (d, e) ih))
+-- earlier rows end before a row starts
+pub earlier-below : (floor : ℕ) (b : Branch) (bs : List Branch) (d : Branch) → Chain floor (b ∷ bs) → d ∈ bs → Below b d
+earlier-below floor b (c ∷ bs) d h (inl e) =
+    let o : c .start ≤ c .end = chain-ordered floor c bs (h .1) in
+    let l : Link floor b c bs = h .0 in
+    rw e (record { ordered = o; below = l .after })
+earlier-below floor b (c ∷ bs) d h (inr m) =
+    let ih : Below c d = earlier-below floor c bs d (h .1) m in
+    let o : c .start ≤ c .end = chain-ordered floor c bs (h .1) in
+    let l : Link floor b c bs = h .0 in
+    record { ordered = ih .ordered; below = omega arith }

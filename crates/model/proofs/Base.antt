@@ -2,11 +2,12 @@
 use Prim.Native.Nat.{ℕ, zero, suc, _≤_, _<_}
 use mathlib.Core.Path.{_≡_, refl, sym, ap, _∙_}
 use mathlib.Core.Logic.{_⊎_, inl, inr}
-use mathlib.Core.List.{List, [], _∷_, _++_, map, reverse, reverseAux}
+use mathlib.Core.List.{List, [], _∷_, _++_, map, reverse, reverseAux, reverse-reverse}
 use mathlib.Core.Bool.{Bool, true, false, cond, _&&_, _||_, and-eq-true-iff, false≢true}
 use native.Mathlib.Omega.{arith}
 use lib.Dec.{leb, eqb}
 use lib.ListN.{length, getD, set, take, drop, replicate, take-append-drop}
+use lib.Seq.{take-append-seam}
 use borrow.Author.Tests.{leb-true, eqb-true, eqb-false, le-leb, eq-eqb}
 use Rattle.model.specs.Store.{keep, any, _∈_}
 use Rattle.model.specs.Lookup.{anyUpTo, isReadable, someReadable}
@@ -40,6 +41,10 @@ same-test true b f g = sym (f refl)
 same-test false true f g = g refl
 same-test false false f g = refl
 
+-- what passes two tests
+abbrev pub passes : {A : Type 0} → (A → Bool) → (A → Bool) → A → Bool
+passes k l x = k x && l x
+
 pub absurd-test : {C : Type 0} {b : Bool} → b ≡ true → b ≡ false → C
 absurd-test p q = absurd (false≢true (sym q ∙ p))
 
@@ -51,10 +56,6 @@ module _ {A : Type 0} where
   pub keep-false : (k : A → Bool) (x : A) (xs : List A) → k x ≡ false → keep k (x ∷ xs) ≡ keep k xs
   unfolding keep
   keep-false k x xs e = rw e
-
-  pub keep-one : (k : A → Bool) (x : A) → k x ≡ true → keep k (x ∷ []) ≡ x ∷ []
-  unfolding keep
-  keep-one k x e = rw e
 
   pub mem-keep : (k : A → Bool) (x : A) (xs : List A) → x ∈ keep k xs → (x ∈ xs) × (k x ≡ true)
   unfolding keep
@@ -92,10 +93,23 @@ module _ {A : Type 0} where
       let ih : keep k (xs ++ ys) ≡ keep k xs ++ keep k ys = keep-append k xs ys in
       case (k x) (λ d. rw (d, ih)) (λ d. rw (d, ih))
 
-  pub keep-same : (k l : A → Bool) (xs : List A) → ((x : A) → x ∈ xs → k x ≡ l x) → keep k xs ≡ keep l xs
+  -- kept in two stages: what passes both tests
+  pub keep-keep : (k l : A → Bool) (xs : List A) → keep l (keep k xs) ≡ keep (passes k l) xs
   unfolding keep
-  keep-same k l [] h = refl
-  keep-same k l (x ∷ xs) h = rw (h x (inl refl), keep-same k l xs (λ y m. h y (inr m)))
+  keep-keep k l [] = refl
+  keep-keep k l (x ∷ xs) = case (k x) (λ e. rw (e, keep-keep k l xs)) (λ e. rw e (keep-keep k l xs))
+
+  -- a kept element by its row
+  pub keep-take : (k : A → Bool) (i : ℕ) (xs : List A) → take (length (keep k (take i xs))) (keep k xs) ≡ keep k (take i xs)
+  keep-take k i xs =
+      let e : keep k xs ≡ keep k (take i xs) ++ keep k (drop i xs) = ap (keep k) (sym (take-append-drop i xs)) ∙ keep-append k (take i xs) (drop i xs) in
+      ap (take (length (keep k (take i xs)))) e ∙ take-append-seam (keep k (take i xs)) (keep k (drop i xs))
+
+  pub keep-getD : (k : A → Bool) (z : A) (i : ℕ) (xs : List A) → k (getD xs i z) ≡ true → getD (keep k xs) (length (keep k (take i xs))) z ≡ getD xs i z
+  unfolding keep
+  keep-getD k z i [] e = refl
+  keep-getD k z zero (x ∷ xs) e = rw e
+  keep-getD k z (suc i) (x ∷ xs) e = case (k x) (λ d. rw d (keep-getD k z i xs e)) (λ d. rw d (keep-getD k z i xs e))
 
   pub any-mem : (k : A → Bool) (x : A) (xs : List A) → x ∈ xs → k x ≡ true → any k xs ≡ true
   unfolding any
@@ -170,6 +184,17 @@ module _ {A : Type 0} where
       let ih : (z : A) × (z ∈ xs) × (y ≡ f z) = map-mem f y xs m in
       (ih .0, inr (ih .1), ih .2)
 
+  pub map-same : {B : Type 0} (f g : A → B) (xs : List A) → ((x : A) → x ∈ xs → f x ≡ g x) → map f xs ≡ map g xs
+  map-same f g [] h = refl
+  map-same f g (x ∷ xs) h = rw (h x (inl refl), map-same f g xs (λ y m. h y (inr m)))
+
+  map-reverseAux : {B : Type 0} (f : A → B) (xs ys : List A) → reverseAux (map f xs) (map f ys) ≡ map f (reverseAux xs ys)
+  map-reverseAux f [] ys = refl
+  map-reverseAux f (x ∷ xs) ys = map-reverseAux f xs (x ∷ ys)
+
+  pub map-reverse : {B : Type 0} (f : A → B) (xs : List A) → reverse (map f xs) ≡ map f (reverse xs)
+  map-reverse f xs = map-reverseAux f xs []
+
   pub getD-mem : (xs : List A) (i : ℕ) (z : A) → i < length xs → getD xs i z ∈ xs
   getD-mem [] i z l = absurd (omega arith)
   getD-mem (x ∷ xs) zero z l = inl refl
@@ -188,6 +213,18 @@ module _ {A : Type 0} where
 
   pub reverse-snoc : (xs : List A) (y : A) → reverse (xs ++ (y ∷ [])) ≡ y ∷ reverse xs
   reverse-snoc xs y = reverseAux-append xs (y ∷ []) []
+
+  mem-reverseAux : (x : A) (xs ys : List A) → (x ∈ xs) ⊎ (x ∈ ys) → x ∈ reverseAux xs ys
+  mem-reverseAux x [] ys (inr m) = m
+  mem-reverseAux x (y ∷ xs) ys (inl (inl e)) = mem-reverseAux x xs (y ∷ ys) (inr (inl e))
+  mem-reverseAux x (y ∷ xs) ys (inl (inr m)) = mem-reverseAux x xs (y ∷ ys) (inl m)
+  mem-reverseAux x (y ∷ xs) ys (inr m) = mem-reverseAux x xs (y ∷ ys) (inr (inr m))
+
+  pub mem-reverse : (x : A) (xs : List A) → x ∈ xs → x ∈ reverse xs
+  mem-reverse x xs m = mem-reverseAux x xs [] (inl m)
+
+  pub reverse-mem : (x : A) (xs : List A) → x ∈ reverse xs → x ∈ xs
+  reverse-mem x xs m = rw (reverse-reverse xs) at (mem-reverse x (reverse xs) m)
 
   keep-reverseAux : (k : A → Bool) (xs ys : List A) → reverseAux (keep k xs) (keep k ys) ≡ keep k (reverseAux xs ys)
   unfolding keep

@@ -17,8 +17,8 @@ use Rattle.model.specs.Store.{zero-branch, zero-record, any, open-end, _
 use Rattle.model.specs.Soundness.{used, inUse, precedes}
 use Rattle.model.proofs.Base.{case, reverse-snoc, getD-mem}
 use Rattle.model.proofs.Latest.{Before, precedes→}
-use Rattle.model.specs.ByNumber.{Asc, Link, Chain, SoundRows, Named, branch, entry, newestOf, held, Line, Ascend, Names}
-use Rattle.model.proofs.Ancestry.{chain-ordered}
+use Rattle.model.specs.ByNumber.{Asc, First, Link, Chain, SoundRows, Named, branch, entry, newestOf, held, Line, Ascend, Names}
+use Rattle.model.proofs.Ancestry.{chain-of, chain-ordered}
 use Rattle.model.proofs.Moves.{rows-covered}
 use Rattle.model.proofs.Places.{count, one, count-cons, count-set, named-set, clear}
 
@@ -87,17 +87,19 @@ module _ (floor : ℕ) (bs : List Branch) where
     pub chain-line : Line bs n
     chain-line = record { stairs = record { ordered = ordered-at; apart = apart-at }; parent = parent-at }
 
+    pub chain-first : 0 < n → First (branch bs 0)
+    chain-first l = rw (top bs 0 zero-branch (omega arith)) at (chain-at n 0 room h l)
+
 -- a readable moment is in one of the rows
 pub held-by : (floor now m : ℕ) (bs : List Branch) (n : ℕ) → SoundRows floor now (newestOf bs n) → now ≤ open-end → floor ≤ m → m ≤ now → held bs n m ≡ true
 unfolding held
 held-by floor now m bs n h a i j = rows-covered floor now m (newestOf bs n) h a i j
 
-chain-of : (floor now : ℕ) (bs : List Branch) → SoundRows floor now bs → Chain floor bs
-chain-of floor now [] h = absurd h
-chain-of floor now (b ∷ bs) h = h .1
-
 pub rows-line : (floor now : ℕ) (bs : List Branch) (n : ℕ) → n ≤ length bs → SoundRows floor now (newestOf bs n) → Line bs n
 rows-line floor now bs n l h = chain-line floor bs n l (chain-of floor now (newestOf bs n) h)
+
+pub rows-first : (floor now : ℕ) (bs : List Branch) (n : ℕ) → n ≤ length bs → 0 < n → SoundRows floor now (newestOf bs n) → First (branch bs 0)
+rows-first floor now bs n l z h = chain-first floor bs n l (chain-of floor now (newestOf bs n) h) z
 
 -- records
 asc-at : (xs : List Record) → Asc xs → (i j : ℕ) → i < j → j < length xs → precedes (getD xs i zero-record) (getD xs j zero-record) ≡ true

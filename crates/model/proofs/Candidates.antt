@@ -1,4 +1,4 @@
--- Readable moments that decide a reclaim: the floor, each row's start above it, and the named ones. So a program need not try them all.
+-- Readable moments that decide which records a reclaim keeps: the floor, each row's start above it, and the named ones. So a program need not try them all.
 use Prim.Native.Nat.{ℕ, _≤_, _<_}
 use mathlib.Core.Path.{_≡_, refl, sym, _∙_}
 use mathlib.Core.Logic.{_⊎_, inl, inr}
@@ -12,12 +12,11 @@ use Rattle.model.specs.declared.Branch.{Branch}
 use Rattle.model.specs.declared.Record.{Record}
 use Rattle.model.specs.declared.Name.{Name}
 use Rattle.model.specs.Store.{Store, newest, records, names, moments, keep, any, _∈_}
-use Rattle.model.specs.Lookup.{holds, within, orElse, latest, lookup, isAt, readableFrom, someReadable, isGiven, inAncestry, isAncestor}
-use Rattle.model.proofs.Base.{case, or→, same-test, absurd-test, keep-mem, mem-keep, any-mem, mem-any, mem-left, mem-right, mem-append, mem-map, map-mem, someReadable-intro, someReadable-elim, readable-above, readable-named, readable→}
+use Rattle.model.specs.Lookup.{holds, within, orElse, latest, lookup, isAt, readableFrom, someReadable, isGiven}
+use Rattle.model.proofs.Base.{case, or→, same-test, absurd-test, keep-mem, mem-keep, any-mem, mem-any, mem-left, mem-right, mem-append, mem-map, map-mem, someReadable-intro, readable-above, readable-named, readable→}
 use Rattle.model.proofs.Latest.{caseOption, Within, within→, →within, not-within, latest-top}
 use Rattle.model.specs.ByNumber.{Asc, Link, Chain, SoundRows, find, Fits, Sound, candidates, deciding}
-use Rattle.model.proofs.Ancestry.{Holds, holds→, →holds, not-holds, held-below, find-hold, find-skip, inAncestry-hold, inAncestry-skip}
-use Rattle.model.proofs.AncestryKept.{Below, earlier-below}
+use Rattle.model.proofs.Ancestry.{Holds, holds→, →holds, not-holds, held-below, find-hold, find-skip, Below, earlier-below}
 use Rattle.model.proofs.Moves.{covered}
 use Rattle.model.proofs.Reclaiming.{Given, given→, →given}
 
@@ -27,7 +26,6 @@ record Candidate (m t : ℕ) (bs : List Branch) : Type 0 where
   low : m ≤ moment
   high : moment ≤ t
   listed : (moment ≡ m) ⊎ ((d : Branch) × (d ∈ bs) × (d .start ≡ moment) × (m < moment))
-  ancestries : (x : ℕ) → inAncestry bs t x ≡ inAncestry bs moment x
   finds : (rs : List Record) (a : ℕ) (r : Record) → r .moment < m → find rs a bs t ≡ some r → find rs a bs moment ≡ some r
 
 latest-less : (rs : List Record) (a lo hi hi′ : ℕ) → hi′ ≤ hi → latest rs a lo hi ≡ none → latest rs a lo hi′ ≡ none
@@ -91,7 +89,6 @@ module _ (m t : ℕ) (b : Branch) (bs : List Branch) where
         low = i;
         high = j;
         listed = k;
-        ancestries = λ x. inAncestry-hold b bs t x y ∙ sym (inAncestry-hold b bs u x z);
         finds =
             λ rs a r c f.
             let f′ : orElse (latest rs a (b .start) t) (find rs a bs (b .cut)) ≡ some r = sym (find-hold rs a b bs t y) ∙ f in
@@ -123,7 +120,6 @@ module _ (m t : ℕ) (b : Branch) (bs : List Branch) where
         low = k .low;
         high = k .high;
         listed = elim (k .listed) [ inl e ↦ inl e | inr d ↦ inr (d .0, inr (d .1), d .2, d .3) ];
-        ancestries = λ x. inAncestry-skip b bs t x y ∙ (k .ancestries x ∙ sym (inAncestry-skip b bs (k .moment) x z));
         finds = λ rs a r c f. find-skip rs a b bs (k .moment) z ∙ k .finds rs a r c (sym (find-skip rs a b bs t y) ∙ f);
       }
 
@@ -205,17 +201,6 @@ module _ (s : Store) (m : ℕ) (h : Sound s) (l : s .head .floor ≤ m) (u : m �
       let g : (t : ℕ) × (t ∈ deciding named m (newest s)) × (f t ≡ true) = mem-any f (deciding named m (newest s)) e in
       let i : (readableFrom s m (g .0) ≡ true) × (g .0 ≤ s .head .now) = deciding-readable (g .0) (g .1) in
       someReadable-intro (readableFrom s m) (s .head .now) f (g .0) (i .0) (i .1) (g .2)
-
-  -- a branch is on the ancestry from a readable moment exactly if it is from one that decides
-  pub ancestor-deciding : (b : Branch) → isAncestor s m b ≡ any (λ t. inAncestry (newest s) t (b .start)) (deciding named m (newest s))
-  unfolding isAncestor
-  ancestor-deciding b =
-      same-test _ _
-      (λ e.
-      let g : (t : ℕ) × (readableFrom s m t ≡ true) × (t ≤ s .head .now) × (inAncestry (newest s) t (b .start) ≡ true) =
-      someReadable-elim (readableFrom s m) (s .head .now) _ e in
-      decided (λ t. inAncestry (newest s) t (b .start)) (g .0) (g .1) (g .2) (g .3) (λ k. sym (k .ancestries (b .start)) ∙ g .3))
-      (decides (λ t. inAncestry (newest s) t (b .start)))
 
   -- a counted record is given exactly if it is not older than the new floor, or a moment that decides gives it
   pub given-deciding : (r : Record) → r ∈ records s

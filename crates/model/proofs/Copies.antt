@@ -128,6 +128,7 @@ module _ (s c : Store) (k : Copy s c) where
             λ a t g i d.
             let x = e .stored a t g i d in
             (x .0, rw (k .records) (x .1), x .2, rw (page-copy h (x .0) (x .1)) (x .3));
+        needed = λ b m. rw (k .records) (e .needed b (rw (k .branches) at m));
       }
 
 ran-copy : (s : Store) (p : Reference) (s′ c : Store) (es : List Answered) → Ran s p s′ es → Copy s′ c → Ran s p c es

@@ -12,19 +12,20 @@ use Rattle.model.specs.declared.Branch.{Branch}
 use Rattle.model.specs.declared.Record.{Record}
 use Rattle.model.specs.declared.Name.{Name}
 use Rattle.model.specs.declared.Head.{Head}
-use Rattle.model.specs.Store.{Store, branches, records, names, isCalled, without, keep, open-end, zero-branch, zero-record, zero-name, _∈_}
-use Rattle.model.specs.Lookup.{readable, isGiven, isAncestor}
+use Rattle.model.specs.Store.{Store, branches, newest, records, names, isCalled, without, keep, open-end, zero-branch, zero-record, zero-name, _∈_}
+use Rattle.model.specs.Lookup.{readable, isGiven}
 use Rattle.model.specs.Wire.{Request, write, mark, revert, readAt, reclaim, give, withdraw, parse, end, one, answerBytes}
-use Rattle.model.specs.Step.{Stepped, standing, firstFree, before, shifted, putIn, inserted, written, doWrite, doMark, branched, doRevert, doRead, renumbered, closedUp, reclaimed, doReclaim, withNames, step}
+use Rattle.model.specs.Step.{Stepped, standing, firstFree, before, shifted, putIn, inserted, written, doWrite, doMark, branched, doRevert, doRead, renumbered, closedUp, landing, withCut, settled, reclaimed, doReclaim, withNames, step}
 use Rattle.model.specs.Batch.{run, batch}
 use Rattle.model.specs.ByNumber.{Sizes, Sound, Whole, Names}
 use Rattle.model.proofs.Base.{case, mem-append, mem-take, mem-drop, mem-set, mem-replicate, mem-keep, map-mem, mem-getD, getD-mem, length-keep}
 use Rattle.model.proofs.Latest.{caseOption, latest→}
 use Rattle.model.proofs.Places.{named-mem, firstFree→}
+use Rattle.model.proofs.Settling.{landing-falls}
 use Rattle.model.proofs.Pages.{length-withPage}
 use Rattle.model.proofs.Invariant.{sound-check}
-use Rattle.model.proofs.Writing.{put-mem, before-le, length-put, length-records}
-use Rattle.model.proofs.Reclaiming.{length-closed, length-branches}
+use Rattle.model.proofs.Writing.{rows-falls, put-mem, before-le, length-put, length-records}
+use Rattle.model.proofs.Reclaiming.{length-closed, length-branches, length-settled, given, isLeft, after}
 use Rattle.model.proofs.Naming.{fewer-names, Givable, give-cases, withdraw-cases}
 use Rattle.model.proofs.ByNumber.{names-of, names-below}
 use Rattle.model.proofs.Steps.{step-sound}
@@ -231,19 +232,32 @@ branched-kept s m h l t room =
 closed-small : {A : Type 0} {P : A → Type 0} (z : A) (kept : List A) (count : ℕ) (rows : List A) → P z → All P kept → All P rows → All P (closedUp z kept count rows)
 closed-small {P = P} z kept count rows p f g = all-append f (all-append (all-replicate P (count - length kept) z p) (all-drop count g))
 
-reclaimed-kept : (s : Store) (m : ℕ) → Sound s → m ≤ s .head .now → Kept s (reclaimed s m (keep (isAncestor s m) (branches s)) (keep (isGiven s m) (records s)))
+-- a cut only falls, so it stays small
+settled-small : (κ : Branch → Bool) (s : Store) → Sound s → All SmallBranch (branches s) → All SmallBranch (settled κ s)
+unfolding settled
+settled-small κ s h f =
+    record {
+      each =
+          λ x m.
+          let q : (b : Branch) × (b ∈ keep κ (branches s)) × (x ≡ withCut b (landing κ (newest s) (b .cut))) = map-mem _ x (keep κ (branches s)) m in
+          let b : SmallBranch (q .0) = f .each (q .0) (mem-keep κ (q .0) (branches s) (q .1) .0) in
+          let l : landing κ (newest s) (q .0 .cut) ≤ q .0 .cut = landing-falls κ (newest s) (rows-falls _ _ (newest s) (h .rows)) (q .0 .cut) in
+          rw (q .2) (record { start = b .start; end = b .end; cut = omega (arith, b .cut) });
+    }
+
+reclaimed-kept : (s : Store) (m : ℕ) → Sound s → m ≤ s .head .now → Kept s (after s m)
 unfolding reclaimed
 reclaimed-kept s m h u =
     let z : Sizes s = h .sizes in
     let ln : length (records s) ≡ s .head .records = length-records s z in
     let lb : length (branches s) ≡ s .head .branches = length-branches s z in
-    let kr : length (keep (isGiven s m) (records s)) ≤ length (records s) = length-keep (isGiven s m) (records s) in
-    let kb : length (keep (isAncestor s m) (branches s)) ≤ length (branches s) = length-keep (isAncestor s m) (branches s) in
+    let kr : length (given s m) ≤ length (records s) = length-keep (isGiven s m) (records s) in
+    let kb : length (settled (isLeft s m) s) ≤ length (branches s) = length-settled s (isLeft s m) in
     let old-rows : Narrow s → All SmallBranch (branches s) = unfold branches in λ n. all-take (s .head .branches) (n .branches) in
     let old : Narrow s → All SmallRecord (records s) = unfold records in λ n. all-take (s .head .records) (n .records) in
     record {
-      branches = length-closed zero-branch (keep (isAncestor s m) (branches s)) (s .head .branches) (s .branchRows) (omega arith) (z .counted-high);
-      records = length-closed zero-record (keep (isGiven s m) (records s)) (s .head .records) (s .recordRows) (omega arith) (z .records-counted);
+      branches = length-closed zero-branch (settled (isLeft s m) s) (s .head .branches) (s .branchRows) (omega arith) (z .counted-high);
+      records = length-closed zero-record (given s m) (s .head .records) (s .recordRows) (omega arith) (z .records-counted);
       places = length-map (s .placeRows) _;
       names = refl;
       slab = refl;
@@ -261,7 +275,7 @@ reclaimed-kept s m h u =
                 };
             branches =
                 closed-small zero-branch _ (s .head .branches) (s .branchRows) (record { start = omega arith; end = omega arith; cut = omega arith })
-                (all-keep (isAncestor s m) (old-rows n)) (n .branches);
+                (settled-small (isLeft s m) s h (old-rows n)) (n .branches);
             records =
                 closed-small zero-record _ (s .head .records) (s .recordRows) (record { address = omega arith; moment = omega arith; place = omega arith })
                 (all-keep (isGiven s m) (old n)) (n .records);

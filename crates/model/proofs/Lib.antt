@@ -1,7 +1,7 @@
 pub mod Base
 pub mod Latest
 pub mod Ancestry
-pub mod AncestryKept
+pub mod Settling
 pub mod Names
 pub mod Places
 pub mod Pages
@@ -28,3 +28,5 @@ pub mod Demand3
 pub mod Copies
 pub mod Putting
 pub mod Commissioned
+pub mod Removal
+pub mod Again

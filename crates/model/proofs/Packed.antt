@@ -9,8 +9,8 @@ use lib.ListN.{length, getD, set, length-map, List·getD-eq-default}
 use lib.Seq.{getD-set-other}
 use borrow.Author.Tests.{ltb-true, ltb-false}
 use Rattle.model.specs.declared.Record.{Record}
-use Rattle.model.specs.Store.{Store, branches, records, keep, open-end, _∈_}
-use Rattle.model.specs.Lookup.{readable, isGiven, isAncestor}
+use Rattle.model.specs.Store.{Store, branches, records, open-end, _∈_}
+use Rattle.model.specs.Lookup.{readable, isGiven}
 use Rattle.model.specs.Wire.{Request, write, mark, revert, readAt, reclaim, give, withdraw}
 use Rattle.model.specs.Step.{Stepped, firstFree, shifted, before, putIn, inserted, intoFree, standing, doWrite, doMark, branched, doRevert, doRead, reclaimed, doReclaim, step}
 use Rattle.model.specs.Reference.{Reference, feed}
@@ -23,7 +23,7 @@ use Rattle.model.proofs.Places.{firstFree→, firstFree-none, firstFree
 use Rattle.model.proofs.Invariant.{Inv}
 use Rattle.model.proofs.Checked.{check-sound}
 use Rattle.model.proofs.Writing.{put-mem, length-records, inserted-records}
-use Rattle.model.proofs.Reclaiming.{reclaimed-records}
+use Rattle.model.proofs.Reclaiming.{records-after}
 use Rattle.model.proofs.Reading.{read-leaves}
 use Rattle.model.proofs.Naming.{give-cases, withdraw-cases}
 use Rattle.model.proofs.Steps.{step-inv}
@@ -176,7 +176,7 @@ step-packs s (reclaim m) h =
     both (Packs s (reclaim m)) (ltb m (s .head .floor)) (still s (reclaim m) _ refl (λ d. omega (arith, d)))
     (both (Packs s (reclaim m)) (ltb (s .head .now) m) (still s (reclaim m) _ refl (λ d. omega (arith, d)))
     (record {
-      placed = λ r k. inl (mem-keep (isGiven s m) r (records s) (rw (reclaimed-records s m (keep (isAncestor s m) (branches s)) (keep (isGiven s m) (records s))) at k) .0);
+      placed = λ r k. inl (mem-keep (isGiven s m) r (records s) (rw (records-after s m) at k) .0);
       full = λ d. absurd (omega (arith, d));
     }))
 step-packs s (give n) h = give-cases (Packs s (give n)) s n (λ k i j. still s (give n) _ refl (λ d. omega (arith, d))) (λ g. still s (give n) _ refl (λ d. omega (arith, d)))

@@ -7,13 +7,14 @@ use mathlib.Core.Option.{Option, some}
 use mathlib.Core.Bool.{Bool, true, false, not}
 use lib.Dec.{eqb}
 use lib.ListN.{length}
+use Rattle.model.specs.declared.Branch.{Branch}
 use Rattle.model.specs.declared.Record.{Record}
 use Rattle.model.specs.declared.Name.{Name}
-use Rattle.model.specs.Store.{Store, records, names, moments, called, keep, Page, pageOf, _∈_}
+use Rattle.model.specs.Store.{Store, branches, records, names, moments, called, keep, Page, pageOf, _∈_}
 use Rattle.model.specs.Lookup.{isReadable}
 use Rattle.model.specs.Soundness.{ascending, tableCheck}
 use Rattle.model.specs.Wire.{Request, write, mark, revert, readAt, reclaim, give, withdraw, requestBytes, Answer, accepted, answerBytes}
-use Rattle.model.specs.Step.{step}
+use Rattle.model.specs.Step.{stays, step}
 use Rattle.model.specs.Fresh.{freshCheck, madeFresh}
 use Rattle.model.specs.Batch.{Answered, ended, andThen, batch}
 use Rattle.model.specs.Reference.{Pair, Reference, empty, isSeen, feed}
@@ -87,11 +88,13 @@ lastReclaims b (e ∷ es) = lastReclaims (acceptedReclaim (e .request) (e .answe
 abbrev pub key : Record → Pair
 key r = record { address = r .address; moment = r .moment }
 
--- the pages held, of counted records, are exactly the pages in readable snapshots, by address, moment and bytes
+-- the pages held, of counted records, are exactly the pages in readable snapshots, by address, moment and bytes;
+-- and no branch is counted but the first row, those that end at or above the floor, that hold a named moment, that hold a record
 pub record Exact (s : Store) (p : Reference) : Type 0 where
   pub seen : (r : Record) → r ∈ records s → (t : ℕ) × Readable p t × (p .snapshot t (r .address) ≡ some (pageOf (s .slab) r))
   pub stored : (a t : ℕ) (g : Page) → Readable p t → p .snapshot t a ≡ some g
       → (r : Record) × (r ∈ records s) × (r .address ≡ a) × (pageOf (s .slab) r ≡ g)
+  pub needed : (b : Branch) → b ∈ branches s → stays (p .floor) (moments (p .names)) (records s) b ≡ true
 
 -- what holds of a store of `size` pages after the requests es, which took the reference to p
 pub record Agrees (size : ℕ) (s : Store) (p : Reference) (es : List Answered) : Type 0 where

@@ -10,3 +10,4 @@ pub mod ByNumber
 pub mod Demand3
 pub mod Packed
 pub mod Commissioned
+pub mod Removal

@@ -74,11 +74,3 @@ isAt m none = false
 -- some read of a moment that is readable with this floor gives the record
 unfoldable pub isGiven : Store → ℕ → Record → Bool
 isGiven s floor r = someReadable (readableFrom s floor) (s .head .now) (λ t. isAt (r .moment) (lookup s (r .address) t))
-
--- the branch that starts at `start` is in the ancestry of a moment
-unfoldable pub inAncestry : List Branch → ℕ → ℕ → Bool
-inAncestry bs t start = any (λ g. eqb (g .branch .start) start) (ancestry bs t)
-
--- the branch is in the ancestry of some moment that is readable with this floor
-unfoldable pub isAncestor : Store → ℕ → Branch → Bool
-isAncestor s floor b = someReadable (readableFrom s floor) (s .head .now) (λ t. inAncestry (newest s) t (b .start))

@@ -2,15 +2,15 @@
 use Prim.Native.Nat.{ℕ, zero, suc, _+_, _-_}
 use mathlib.Core.List.{List, [], _∷_, _++_, map}
 use mathlib.Core.Option.{Option, some, none, Option·map}
-use mathlib.Core.Bool.{Bool, cond}
-use lib.Dec.{leb, ltb}
+use mathlib.Core.Bool.{Bool, cond, _||_}
+use lib.Dec.{leb, ltb, eqb}
 use lib.ListN.{length, take, drop, getD, set, replicate}
 use Rattle.model.specs.declared.Branch.{Branch}
 use Rattle.model.specs.declared.Record.{Record}
 use Rattle.model.specs.declared.Name.{Name}
 use Rattle.model.specs.declared.Head.{Head}
-use Rattle.model.specs.Store.{Store, branches, records, names, isCalled, called, without, keep, any, open-end, zero-branch, zero-record, zero-name, withPage, foundPage}
-use Rattle.model.specs.Lookup.{lookup, latest, readable, isGiven, isAncestor}
+use Rattle.model.specs.Store.{Store, branches, newest, records, names, moments, isCalled, called, without, keep, any, open-end, zero-branch, zero-record, zero-name, withPage, foundPage}
+use Rattle.model.specs.Lookup.{holds, lookup, latest, readable, isGiven}
 use Rattle.model.specs.Soundness.{precedes}
 use Rattle.model.specs.Wire.{Request, write, mark, revert, readAt, reclaim, give, withdraw, Answer, refused, accepted}
 
@@ -142,14 +142,37 @@ renumbered kept rs (suc i) = cond (kept (getD rs i zero-record)) (suc (length (k
 abbrev pub closedUp : {A : Type 0} → A → List A → ℕ → List A → List A
 closedUp z kept count rows = kept ++ (replicate (count - length kept) z ++ drop count rows)
 
--- the store with the floor set, and just these branches and the given records kept
-unfoldable pub reclaimed : Store → ℕ → List Branch → List Record → Store
-reclaimed s floor bs rs =
+-- a branch stays: the first row, which alone starts at 0; one that ends at or above the floor; one that holds a named moment;
+-- one that holds a kept record
+unfoldable pub stays : ℕ → List ℕ → List Record → Branch → Bool
+stays floor named kept b =
+    eqb (b .start) 0 || (leb floor (b .end) || (any (holds b) named || any (λ r. holds b (r .moment)) kept))
+
+-- a branch row with another cut
+abbrev pub withCut : Branch → ℕ → Branch
+withCut b t = record { start = b .start; end = b .end; cut = t }
+
+-- what a cut becomes where only branches that pass are left ("each child takes over its cut"), of branches that stand newest first:
+-- it stays where the branch that holds it does; where that one goes, its cut takes over, and so on
+unfoldable pub landing : (Branch → Bool) → List Branch → ℕ → ℕ
+landing left [] t = t
+landing left (b ∷ earlier) t =
+    cond (holds b t) (cond (left b) t (landing left earlier (b .cut))) (landing left earlier t)
+
+-- the branches that are left, with what their cuts become
+unfoldable pub settled : (Branch → Bool) → Store → List Branch
+settled left s = map (λ b. withCut b (landing left (newest s) (b .cut))) (keep left (branches s))
+
+-- the store with the floor set, and just the records and branches that pass kept
+unfoldable pub reclaimed : Store → ℕ → (Record → Bool) → (Branch → Bool) → Store
+reclaimed s floor kept left =
+    let rs = keep kept (records s) in
+    let bs = settled left s in
     record {
       head = headWith (s .head) (length bs) (length rs) (s .head .now) floor;
       branchRows = closedUp zero-branch bs (s .head .branches) (s .branchRows);
       recordRows = closedUp zero-record rs (s .head .records) (s .recordRows);
-      placeRows = map (renumbered (isGiven s floor) (records s)) (s .placeRows);
+      placeRows = map (renumbered kept (records s)) (s .placeRows);
       nameRows = s .nameRows;
       slab = s .slab;
     }
@@ -160,7 +183,7 @@ doReclaim s m =
     (cond (ltb (s .head .now) m) (unchanged s 9)
     (let rs = keep (isGiven s m) (records s) in
     record {
-      store = reclaimed s m (keep (isAncestor s m) (branches s)) rs;
+      store = reclaimed s m (isGiven s m) (stays m (moments (names s)) rs);
       answer = accepted (s .head .records - length rs);
     }))
 

@@ -1,7 +1,7 @@
 -- A reclaim of the lent tables is the model's.
 use mathlib.Core.Path.{_≡_, refl, ap, sym, _∙_}
 use mathlib.Core.List.{List, map}
-use mathlib.Core.Bool.{Bool, true, false}
+use mathlib.Core.Bool.{true}
 use Prim.Native.Nat.{ℕ, _/_, _-_, _≤_, _<_}
 use native.Mathlib.Omega.{arith}
 use lib.Dec.{eqb}
@@ -13,21 +13,22 @@ use Rattle.model.specs.declared.Record.{Record}
 use Rattle.model.specs.declared.Name.{Name}
 use Rattle.model.specs.declared.Head.{Head}
 use Rattle.model.specs.Store.{Store, branches, newest, records, names, moments, keep, zero-branch, zero-record, _∈_}
-use Rattle.model.specs.Lookup.{lookup, isGiven, isAncestor}
+use Rattle.model.specs.Lookup.{lookup, isGiven}
 use Rattle.model.specs.Wire.{reclaim, accepted}
-use Rattle.model.specs.Step.{renumbered, reclaimed, doReclaim, step}
-use Rattle.model.specs.ByNumber.{SoundRows, Asc, Named, Sizes, Sound, branch, newestOf, deciding, held, Line, entry, Ascend, Names}
-use Rattle.model.proofs.Candidates.{ancestor-deciding, given-deciding}
+use Rattle.model.specs.Step.{headWith, stays, settled, closedUp, renumbered, reclaimed, doReclaim, step}
+use Rattle.model.specs.ByNumber.{SoundRows, Asc, Named, Sizes, Sound, branch, newestOf, held, First, Line, entry, Ascend, Names}
+use Rattle.model.proofs.Candidates.{given-deciding}
 use Rattle.rows.specs.Rows.{branchWidth, branchRowsOf, recordWidth, recordRowsOf, nameWidth, nameRowsOf, BranchesIn, RecordsIn, NamesIn}
 use Rattle.rows.proofs.Laws.{branch-kind, record-kind, name-kind, record-count, branch-count, name-count}
-use Rattle.model.proofs.ByNumber.{rows-line, held-by, asc-ascend, names-of}
+use Rattle.model.proofs.ByNumber.{rows-line, rows-first, held-by, asc-ascend, names-of}
 use Rattle.model.proofs.Base.{getD-mem, map-mem}
-use Rattle.branch_marks.specs.Marks.{Filled, Held, bit, wanted, keptBranch}
-use Rattle.record_marks.specs.Marks.{Placed}
+use Rattle.branch_marks.specs.Marks.{Filled, Held, Placed}
 use Rattle.deciding.specs.Deciding.{given, keptRecord}
-use Rattle.closing.specs.Closed.{marked, keepBy, renamed, ClosedRecords, ClosedBranches}
+use Rattle.closing.specs.Closed.{marked, keepBy, renamed, ClosedRecords}
 use Rattle.rows.specs.View.{Tables, withBranches, withRecords, withPlaces, withNames, storeOf, recordGiven, Carried, refusedWith}
 use Rattle.reclaim.specs.Reclaimable.{Reclaimable}
+use Rattle.reclaim.specs.Settled.{settledRows, Settled}
+use Rattle.reclaim.proofs.Settles.{bit-test}
 use Rattle.rows.proofs.Relaid.{laid-own, laid-rows}
 use Rattle.rows.proofs.View.{within-own, carried}
 use Rattle.rows.specs.declared.Found.the-variants.{Nothing}
@@ -43,6 +44,7 @@ pub record Ready (h : Head) (m : ℕ) (bt rt pt nt : List ℕ) : Type 0 where
   pub name-room : NamesIn (h .names) nt
   pub name-count : h .names ≤ 32
   pub line : Line (branchRowsOf bt) (h .branches)
+  pub first : First (branch (branchRowsOf bt) 0)
   pub readable : held (branchRowsOf bt) (h .branches) m ≡ true
   pub named-held : Held (branchRowsOf bt) (h .branches) (moments (take (h .names) (nameRowsOf nt)))
   pub ascend : Ascend (recordRowsOf rt) (h .records)
@@ -123,6 +125,7 @@ module _ (h : Head) (t : Tables) where
           name-room = omega arith;
           name-count = omega arith;
           line = rows-line (h .floor) (h .now) bs (h .branches) rows-room sound-rows;
+          first = rows-first (h .floor) (h .now) bs (h .branches) rows-room (sd .sizes .counted-low) sound-rows;
           readable = held-by (h .floor) (h .now) m bs (h .branches) sound-rows (z .now-high) l u;
           named-held = record { each = moment-held };
           ascend = asc-ascend rs (h .records) records-room sound-asc;
@@ -130,30 +133,10 @@ module _ (h : Head) (t : Tables) where
           names = names-of rs (h .records) pt records-room sound-named (sd .in-use);
         }
 
-    -- the marks are the model's tests
-    wanted-ancestor : (b : Branch) → wanted bs (h .branches) (deciding ms m (newestOf bs (h .branches))) (b .start) ≡ isAncestor s m b
-    unfolding wanted
-    wanted-ancestor b = sym (rw (newest-rows, names-rows) at (ancestor-deciding s m sd l u b))
-
+    -- the marks of the records are the model's test
     given-read : (r : Record) → r ∈ take (h .records) rs → given bs (h .branches) (take (h .records) rs) m ms r ≡ isGiven s m r
     unfolding given lookup newest branches records names
     given-read r i = sym (given-deciding s m sd l u r i)
-
-    bit-test : (b : Bool) → eqb (bit b) 1 ≡ b
-    bit-test true = refl
-    bit-test false = refl
-
-    module _ {old bm : List ℕ} (f : Filled (keptBranch bs (h .branches) (deciding ms m (newestOf bs (h .branches)))) (h .branches) old bm) where
-      pub keep-branches : keepBy (marked bm) (take (h .branches) bs) ≡ keep (isAncestor s m) (take (h .branches) bs)
-      keep-branches =
-          let n : length (take (h .branches) bs) ≡ h .branches = length-take-le (h .branches) bs rows-room in
-          keepBy-keep (marked bm) (isAncestor s m) zero-branch (take (h .branches) bs)
-          (λ i a.
-          let b : i < h .branches = rw n at a in
-          ap (λ (x : ℕ). eqb x 1) (f .first i b)
-          ∙ bit-test (wanted bs (h .branches) (deciding ms m (newestOf bs (h .branches))) (branch bs i .start))
-          ∙ wanted-ancestor (branch bs i)
-          ∙ ap (isAncestor s m) (sym (getD-take (h .branches) bs i zero-branch b)))
 
     module _ {old rm : List ℕ} (f : Filled (keptRecord bs (h .branches) rs (h .records) m ms) (h .records) old rm) where
       mark-test : (i : ℕ) → i < h .records → marked rm i ≡ isGiven s m (getD (take (h .records) rs) i zero-record)
@@ -175,25 +158,29 @@ module _ (h : Head) (t : Tables) where
       rename-places =
           renamed-numbered (marked rm) rs (h .records) pt (names-of rs (h .records) pt records-room sound-named (sd .in-use)) (isGiven s m) mark-test records-room
 
-    -- the tests depend on branches, records and names alone
+    -- it depends on branches, records and names alone
     given-others : (o : Tables) → isGiven (storeOf h (withRecords (t .records) (withBranches (t .branches) (withNames (t .names) o)))) m ≡ isGiven s m
     unfolding isGiven lookup newest branches records names
     given-others o = refl
 
-    ancestor-others : (o : Tables) → isAncestor (storeOf h (withRecords (t .records) (withBranches (t .branches) (withNames (t .names) o)))) m ≡ isAncestor s m
-    unfolding isAncestor newest branches names
-    ancestor-others o = refl
-
 -- the step, in the terms of the tables
 accepted-step : (h : Head) (t : Tables) (m : ℕ) → h .floor ≤ m → m ≤ h .now
     → step (storeOf h t) (reclaim m)
-    ≡ record {
+    ≡ (let rs = keep (isGiven (storeOf h t) m) (take (h .records) (recordRowsOf (t .records))) in
+    let bs = settledRows (stays m (moments (take (h .names) (nameRowsOf (t .names)))) rs) (h .branches) (branchRowsOf (t .branches)) in
+    record {
       store =
-          reclaimed (storeOf h t) m (keep (isAncestor (storeOf h t) m) (take (h .branches) (branchRowsOf (t .branches))))
-          (keep (isGiven (storeOf h t) m) (take (h .records) (recordRowsOf (t .records))));
-      answer = accepted (h .records - length (keep (isGiven (storeOf h t) m) (take (h .records) (recordRowsOf (t .records)))));
-    }
-unfolding step doReclaim branches records
+          record {
+            head = headWith h (length bs) (length rs) (h .now) m;
+            branchRows = closedUp zero-branch bs (h .branches) (branchRowsOf (t .branches));
+            recordRows = closedUp zero-record rs (h .records) (recordRowsOf (t .records));
+            placeRows = map (renumbered (isGiven (storeOf h t) m) (take (h .records) (recordRowsOf (t .records)))) (t .places);
+            nameRows = nameRowsOf (t .names);
+            slab = t .slab;
+          };
+      answer = accepted (h .records - length rs);
+    })
+unfolding step doReclaim reclaimed settled newest branches records names
 accepted-step h t m l u = rw (le-ltb m (h .floor) l, le-ltb (h .now) m u)
 
 -- the tables of numbers, beside a slab
@@ -201,21 +188,19 @@ abbrev pub lent : List ℕ → List ℕ → List ℕ → List ℕ → Tables →
 lent bt rt pt nt o = withPlaces pt (withRecords rt (withBranches bt (withNames nt o)))
 
 pub reclaims :
-    (h : Head) (bt rt pt nt bt′ rt′ pt′ : List ℕ) (m wb wr : ℕ) {ob bm or rm : List ℕ}
+    (h : Head) (bt rt pt nt bt′ rt′ pt′ : List ℕ) (m wb wr : ℕ) {or rm : List ℕ}
     → Reclaimable h bt rt pt nt → h .floor ≤ m → m ≤ h .now
-    → Filled (keptBranch (branchRowsOf bt) (h .branches) (deciding (moments (take (h .names) (nameRowsOf nt))) m (newestOf (branchRowsOf bt) (h .branches)))) (h .branches) ob bm
     → Filled (keptRecord (branchRowsOf bt) (h .branches) (recordRowsOf rt) (h .records) m (moments (take (h .names) (nameRowsOf nt)))) (h .records) or rm
     → ClosedRecords rm (h .records) rt rt′ pt pt′ wr → length rt′ ≡ length rt
-    → ClosedBranches bm (h .branches) bt bt′ wb → length bt′ ≡ length bt
+    → Settled (stays m (moments (take (h .names) (nameRowsOf nt))) (keepBy (marked rm) (take (h .records) (recordRowsOf rt)))) (h .branches) bt bt′ wb → length bt′ ≡ length bt
     → (o : Tables)
     → Carried h (lent bt rt pt nt o) (reclaim m)
     (record { head = record { size = h .size; branches = wb; records = wr; now = h .now; floor = m; names = h .names }; refusal = 0; value = h .records - wr; found = Nothing })
     (lent bt′ rt′ pt′ nt o)
-unfolding reclaimed recordGiven records
-reclaims h bt rt pt nt bt′ rt′ pt′ m wb wr {ob} {bm} {or} {rm} a l u fb fr cr lr cb lb o =
+unfolding recordGiven
+reclaims h bt rt pt nt bt′ rt′ pt′ m wb wr {or} {rm} a l u fr cr lr cb lb o =
     let t : Tables = lent bt rt pt nt (a .others) in
     let sd : Sound (storeOf h t) = a .sound in
-    let eb = keep-branches h t m sd l u fb in
     let er = keep-records h t m sd l u fr in
     let ep = rename-places h t m sd l u fr in
     let tb = laid-rows branch-kind (cb .table) lb in
@@ -223,7 +208,7 @@ reclaims h bt rt pt nt bt′ rt′ pt′ m wb wr {ob} {bm} {or} {rm} a l u fb fr
     carried h (lent bt rt pt nt o) (reclaim m)
     (sym
     (accepted-step h (lent bt rt pt nt o) m l u
-    ∙ rw (given-others h t m sd l u (withPlaces pt o), ancestor-others h t m sd l u (withPlaces pt o), ← eb, ← er, ← ep, ← tb, ← cb .count, ← tr, ← cr .count, ← cr .places)))
+    ∙ rw (given-others h t m sd l u (withPlaces pt o), ← er, ← ep, ← tb, ← cb .count, ← tr, ← cr .count, ← cr .places)))
     refl
     (record { branches = rw tb (cb .table); records = rw tr (cr .table); names = laid-own name-kind nt })
 

@@ -1,1 +1,2 @@
 pub mod Reclaimable
+pub mod Settled

@@ -1,4 +1,4 @@
-// Request 5: the records and branches that no readable moment needs are freed.
+// Request 5: the records that no readable moment needs are freed, and the branches that need not stay then.
 use model::Head;
 use rows::Found;
 use rows::Outcome;
@@ -7,14 +7,16 @@ ghost use mathlib.Core.Bool.{true};
 ghost use Prim.Native.Nat.{_≤_, _<_};
 ghost use lib.ListN.{length, take};
 ghost use Rattle.model.specs.Store.{moments};
-ghost use Rattle.model.specs.ByNumber.{Line, held, Ascend, deciding, newestOf};
+ghost use Rattle.model.specs.Step.{stays};
+ghost use Rattle.model.specs.ByNumber.{Line, First, branch, held, Ascend};
 ghost use Rattle.model.specs.Wire.{reclaim};
 ghost use Rattle.rows.specs.Rows.{branchRowsOf, recordRowsOf, nameRowsOf, BranchesIn, RecordsIn, NamesIn};
 ghost use Rattle.rows.specs.View.{Tables, withBranches, withRecords, withPlaces, withNames, Carried};
-ghost use Rattle.branch_marks.specs.Marks.{Filled, Zeros, Held, keptBranch};
-ghost use Rattle.record_marks.specs.Marks.{Placed};
+ghost use Rattle.closing.specs.Closed.{marked, keepBy};
+ghost use Rattle.branch_marks.specs.Marks.{Filled, Zeros, Held, Placed};
 ghost use Rattle.deciding.specs.Deciding.{keptRecord};
 ghost use Rattle.reclaim.specs.Reclaimable.{Reclaimable};
+ghost use Rattle.reclaim.specs.Settled.{Settled};
 
 // Room for a byte of each branch.
 fn branch_bytes() -> [u8; 4096]
@@ -30,8 +32,8 @@ fn record_bytes() -> [u8; 65536]
     [0u8; 65536]
 }
 
-// The marks of n branches and of nr records: by the moments that decide, which are listed once.
-fn mark_all(
+// The marks of nr records: by the moments that decide, unless none is older than the floor.
+fn mark_kept(
     bt: &[u32],
     n: usize,
     rt: &[u32],
@@ -39,28 +41,49 @@ fn mark_all(
     nt: &[u32],
     k: usize,
     floor: u32,
-    bm: &mut [u8],
     rm: &mut [u8],
 )
-    requires { ⌜ BranchesIn n (now bt) × (n ≤ 4096) × (0 < n) × RecordsIn nr (now rt) × NamesIn k (now nt) × (k ≤ 32) × (n ≤ length (now bm)) × (nr ≤ length (now rm)) ⌝ }
+    requires { ⌜ BranchesIn n (now bt) × (n ≤ 4096) × (0 < n) × RecordsIn nr (now rt) × NamesIn k (now nt) × (k ≤ 32) × (nr ≤ length (now rm)) ⌝ }
     requires { ⌜ Line (branchRowsOf (now bt)) n ⌝ }
     requires { ⌜ held (branchRowsOf (now bt)) n floor ≡ true ⌝ }
     requires { ⌜ Held (branchRowsOf (now bt)) n (moments (take k (nameRowsOf (now nt)))) ⌝ }
     requires { ⌜ Ascend (recordRowsOf (now rt)) nr ⌝ }
     requires { ⌜ Placed (branchRowsOf (now bt)) n (recordRowsOf (now rt)) nr ⌝ }
-    ensures { λ _. ⌜ Filled (keptBranch (branchRowsOf (now (bt .entry))) n (deciding (moments (take k (nameRowsOf (now (nt .entry))))) floor (newestOf (branchRowsOf (now (bt .entry))) n))) n (now (bm .entry)) (now (bm .exit)) ⌝ }
     ensures { λ _. ⌜ Filled (keptRecord (branchRowsOf (now (bt .entry))) n (recordRowsOf (now (rt .entry))) nr floor (moments (take k (nameRowsOf (now (nt .entry)))))) nr (now (rm .entry)) (now (rm .exit)) ⌝ }
 {
-    let mut table = deciding::moments();
-    let s = deciding::starts(bt, n, floor, &mut table);
-    let c = deciding::named(nt, k, s, &mut table);
-    branch_marks::mark_branches(bt, n, &table[..c], bm);
     if deciding::none_older(rt, nr, floor) {
         deciding::keep_young(rt, nr, floor, rm);
         return;
     }
+    let mut table = deciding::moments();
+    let s = deciding::starts(bt, n, floor, &mut table);
+    let c = deciding::named(nt, k, s, &mut table);
     record_marks::mark_records(bt, n, &table[..c], rt, nr, rm);
     deciding::keep_young(rt, nr, floor, rm);
+}
+
+// The branches that stay by the floor, the names and the marked records close up, with the cuts that they take over; and how many they are.
+fn settle(
+    bt: &mut [u32],
+    n: usize,
+    floor: u32,
+    nt: &[u32],
+    k: usize,
+    rt: &[u32],
+    nr: usize,
+    kept: &[u8],
+) -> usize
+    requires { ⌜ BranchesIn n (now bt) × (n ≤ 4096) × (0 < n) × NamesIn k (now nt) × RecordsIn nr (now rt) × (nr ≤ length (now kept)) ⌝ }
+    requires { ⌜ Line (branchRowsOf (now bt)) n ⌝ }
+    requires { ⌜ First (branch (branchRowsOf (now bt)) 0) ⌝ }
+    requires { ⌜ Held (branchRowsOf (now bt)) n (moments (take k (nameRowsOf (now nt)))) ⌝ }
+    requires { ⌜ Placed (branchRowsOf (now bt)) n (recordRowsOf (now rt)) nr ⌝ }
+    ensures { λ r. ⌜ Settled (stays floor (moments (take k (nameRowsOf (now (nt .entry))))) (keepBy (marked (now (kept .entry))) (take nr (recordRowsOf (now (rt .entry)))))) n (now (bt .entry)) (now (bt .exit)) r ⌝ }
+{
+    let mut bm = branch_bytes();
+    branch_marks::mark_branches(bt, n, floor, nt, k, rt, nr, kept, &mut bm);
+    cuts::take_over(bt, n, &bm);
+    closing::close_branches(bt, n, &bm)
 }
 
 // Request 5, with refusals 8 and 9 in this order. The answer is the number of records freed.
@@ -84,11 +107,10 @@ pub fn reclaim(
     let n = head.branches as usize;
     let nr = head.records as usize;
     let k = head.names as usize;
-    let mut bm = branch_bytes();
     let mut rm = record_bytes();
-    mark_all(bt, n, rt, nr, nt, k, floor, &mut bm, &mut rm);
+    mark_kept(bt, n, rt, nr, nt, k, floor, &mut rm);
+    let wb = settle(bt, n, floor, nt, k, rt, nr, &rm);
     let wr = closing::close_records(rt, nr, pt, &rm);
-    let wb = closing::close_branches(bt, n, &bm);
     let next = Head {
         size: head.size,
         branches: wb as u32,

@@ -14,13 +14,13 @@ use Rattle.model.specs.Store.{any, _∈_}
 use Rattle.model.specs.Lookup.{isAt}
 use Rattle.model.proofs.Base.{case, any-mem, mem-any}
 use Rattle.model.specs.ByNumber.{find, entry, newestOf, Line, Ascend}
-use Rattle.branch_marks.specs.Marks.{bit, Zeros}
+use Rattle.branch_marks.specs.Marks.{bit, Zeros, Placed}
 use Rattle.spans.specs.Reach.{reach}
 use Rattle.spans.specs.Order.{when, kind, Tree, Leaves, Sums, Firsts, Numbered}
 use Rattle.spans.proofs.Reaching.{reach-trans, reach-line}
 use Rattle.spans.proofs.Seeing.{Gives, gives→, →gives}
 use Rattle.spans.proofs.Framing.{numbered}
-use Rattle.record_marks.specs.Marks.{addressOf, lowOf, highOf, spansLaid, givenRow, Placed, GivenBy, Stopped, Onward, Blank}
+use Rattle.record_marks.specs.Marks.{addressOf, lowOf, highOf, spansLaid, givenRow, GivenBy, Stopped, Onward, Blank}
 use Rattle.record_marks.proofs.Hopping.{Rows, Hops, Told, yes-told, no-told, Marking, free-at, full-at, onward, hops-set, hops-keep, marking-step}
 
 -- the leaves among the events

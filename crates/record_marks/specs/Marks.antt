@@ -1,7 +1,7 @@
 -- The records that wanted moments give, as bytes by row number.
 use mathlib.Core.Path.{_≡_}
 use mathlib.Core.List.{List, map}
-use mathlib.Core.Bool.{true, cond}
+use mathlib.Core.Bool.{cond}
 use Prim.Native.Nat.{ℕ, zero, suc, _+_, _-_, _*_, _/_, _%_, _<_}
 use lib.Dec.{leb, eqb}
 use lib.ListN.{getD, set, take}
@@ -9,7 +9,7 @@ use Rattle.model.specs.declared.Branch.{Branch}
 use Rattle.model.specs.declared.Record.{Record}
 use Rattle.model.specs.Store.{any}
 use Rattle.model.specs.Lookup.{isAt}
-use Rattle.model.specs.ByNumber.{find, entry, newestOf, held}
+use Rattle.model.specs.ByNumber.{find, entry, newestOf}
 use Rattle.branch_marks.specs.Marks.{bit, Filled, Rest}
 use Rattle.sorting.specs.Sorted.{Roomed}
 use Rattle.events.specs.Keys.{Listed}
@@ -18,10 +18,6 @@ use Rattle.spans.specs.Order.{Leaves, firstOf, Sums, Firsts, spanLow, spanHigh}
 -- the byte of a record: 1 where a lookup at a wanted moment gives it
 unfoldable pub givenRow : List Branch → ℕ → List Record → ℕ → List ℕ → ℕ → ℕ
 givenRow bs n rs nr wanted k = bit (any (λ t. isAt (entry rs k .moment) (find (take nr rs) (entry rs k .address) (newestOf bs n) t)) wanted)
-
--- the moments of the records are held
-pub record Placed (bs : List Branch) (n : ℕ) (rs : List Record) (nr : ℕ) : Type 0 where
-  pub each : (k : ℕ) → k < nr → held bs n (entry rs k .moment) ≡ true
 
 -- a table of zeros
 pub record Blank (t : List ℕ) : Type 0 where

@@ -6,9 +6,9 @@ ghost use Prim.Native.Nat.{_+_, _≤_, _<_};
 ghost use lib.ListN.{length};
 ghost use Rattle.rows.specs.Rows.{branchRowsOf, recordRowsOf, BranchesIn, RecordsIn};
 ghost use Rattle.model.specs.ByNumber.{Line, Ascend};
-ghost use Rattle.branch_marks.specs.Marks.{bit, Held, Zeros, Filled};
+ghost use Rattle.branch_marks.specs.Marks.{bit, Held, Placed, Zeros, Filled};
 ghost use Rattle.spans.specs.Order.{Tree, Edges, Sums, Firsts};
-ghost use Rattle.record_marks.specs.Marks.{Placed, Blank, ownersIn, endsIn, GivenBy, Taken, Worked, Stopped, Onward, givenRow};
+ghost use Rattle.record_marks.specs.Marks.{Blank, ownersIn, endsIn, GivenBy, Taken, Worked, Stopped, Onward, givenRow};
 
 // The first number from lo on that no span of the address a begins at, or one not below hi.
 pub fn hop(taken: &[u64], a: u32, lo: usize, hi: usize) -> usize

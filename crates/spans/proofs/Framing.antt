@@ -120,7 +120,7 @@ module _ {bs : List Branch} {n : ℕ} {keys : List ℕ} {ne : ℕ} (h : Line bs 
   parent j z l = parent-holder h room j z l
 
   pub cut-row : (j : ℕ) → 0 < j → j < n → parentOf bs j ≡ holder bs n (branch bs j .cut)
-  cut-row j z l = let s = parent j z l in holder-is h n (branch bs j .cut) (parentOf bs j) (omega arith) (omega (arith, s .inside)) (s .low) (s .high)
+  cut-row j z l = let s = parent j z l in holder-is (h .stairs) n (branch bs j .cut) (parentOf bs j) (omega arith) (omega (arith, s .inside)) (s .low) (s .high)
 
   pub event-held : (k : ℕ) → k < ne → Holder bs n (when keys k) (holder bs n (when keys k))
   event-held k l = holder-of bs n (when keys k) room (ev .inside k l)
@@ -151,7 +151,7 @@ module _ {bs : List Branch} {n : ℕ} {keys : List ℕ} {ne : ℕ} (h : Line bs 
       let z : k < ne = omega (arith, above-within keys ne (branch bs i .start)) in
       let x = above-late keys ne (branch bs i .end + 1) k a z in
       let y = above-early (ev .order) (branch bs i .start) k b in
-      sym (holder-is h n (when keys k) i (omega arith) l y (omega arith))
+      sym (holder-is (h .stairs) n (when keys k) i (omega arith) l y (omega arith))
 
   pub windowed : (i : ℕ) → i < n → (firstOf bs keys ne i ≤ pastOf bs keys ne i) × (pastOf bs keys ne i ≤ ne)
   unfolding firstOf pastOf
@@ -226,7 +226,7 @@ module _ {bs : List Branch} {n : ℕ} {keys : List ℕ} {ne : ℕ} (h : Line bs 
         let s = event-held e j in
         elim (reach→ bs (rowOf bs n keys e) (when keys e) m (event-holds e j) (sym (open-row e m j) ∙ r)) [
           | inl y ↦
-              let p : rowOf bs n keys e ≡ i = holder-is h n m (rowOf bs n keys e) (omega arith) (s .inside) (y .0) (omega (arith, y .1, s .high)) ∙ sym (holder-is h n m i (omega arith) l a b) in
+              let p : rowOf bs n keys e ≡ i = holder-is (h .stairs) n m (rowOf bs n keys e) (omega arith) (s .inside) (y .0) (omega (arith, y .1, s .high)) ∙ sym (holder-is (h .stairs) n m i (omega arith) l a b) in
               (e, rw p at (seated e j .1), case (ltb e (above keys ne m)) (λ w. ltb-true _ _ w) (λ w. absurd (omega (arith, above-late keys ne m e (ltb-false _ _ w) j, y .1))), here)
           | inr y ↦
               case (ltb 0 (rowOf bs n keys e))

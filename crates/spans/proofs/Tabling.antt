@@ -473,13 +473,13 @@ module _ {bs : List Branch} {n : ℕ} {keys : List ℕ} {ne : ℕ} (h : Line bs 
 
   pub ranged-low : (i c : ℕ) → i < n → (firsts : List ℕ) (t : ℕ) → firstMoment bs i keys ne c ≤ t → t ≤ lastMoment bs i keys c → getD firsts i 0 ≡ spanLow bs n firsts t
   unfolding spanLow
-  ranged-low i c l firsts t a b = ap (λ (x : ℕ). getD firsts x 0) (holder-is h n t i (omega arith) l (between-low i c t a .0) (between-high i c t b .0))
+  ranged-low i c l firsts t a b = ap (λ (x : ℕ). getD firsts x 0) (holder-is (h .stairs) n t i (omega arith) l (between-low i c t a .0) (between-high i c t b .0))
 
   pub ranged-high : (i c e : ℕ) → i < n → c ≤ ne → (sums firsts : List ℕ) → e ≡ firstOf bs keys ne i → (t : ℕ) → firstMoment bs i keys ne c ≤ t → t ≤ lastMoment bs i keys c
       → getD firsts i 0 + (getD sums c 0 - getD sums e 0) ≡ spanHigh bs n keys ne sums firsts t
   unfolding spanHigh
   ranged-high i c e l k sums firsts q t a b =
-      rw (← holder-is h n t i (omega arith) l (between-low i c t a .0) (between-high i c t b .0), ← between-above i c t k a b, q)
+      rw (← holder-is (h .stairs) n t i (omega arith) l (between-low i c t a .0) (between-high i c t b .0), ← between-above i c t k a b, q)
 
 pub none-ranged : {bs : List Branch} {n : ℕ} {keys : List ℕ} {ne : ℕ} {sums firsts : List ℕ} → 0 < n → Ranged bs n keys ne sums firsts (record { lo = 0; hi = 0; row = 0; at = 0; from = 1; to = 0 })
 none-ranged z =

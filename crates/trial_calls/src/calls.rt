@@ -255,6 +255,36 @@ pub fn ask(w: &mut Numbers, b: &mut Bytes) -> u32
     number_at(w, STOP)
 }
 
+// A batch of the bytes handed in on tables that the caller holds. Answers the stop number.
+pub fn ask_over(
+    w: &mut Numbers,
+    b: &mut Bytes,
+    bt: &mut [u32],
+    rt: &mut [u32],
+    pt: &mut [u32],
+    nt: &mut [u32],
+    slab: &mut [u8],
+) -> u32
+    ensures { λ r. ⌜ r ≡ getD (now (w .exit)) 6 0 ⌝ }
+{
+    let input = input_bytes(b);
+    let mut answers = blank_area();
+    let d = batch_on(
+        head(w),
+        lent_lengths(w),
+        bt,
+        rt,
+        pt,
+        nt,
+        slab,
+        &input,
+        &mut answers,
+    );
+    note(w, d);
+    save_answers(b, &answers);
+    number_at(w, STOP)
+}
+
 // A fresh store over parts of what is lent.
 fn make_on(
     h: Head,
@@ -282,27 +312,21 @@ fn make_on(
     )
 }
 
-fn make_with(
+// A fresh store of the sizes on trial over tables that the caller holds. Its refusal is noted as the stop number. Answers it.
+pub fn make_over(
     w: &mut Numbers,
-    b: &Bytes,
-    bt: &mut [u32; 64],
-    rt: &mut [u32; 64],
-    pt: &mut [u32; 64],
-    nt: &mut [u32; 99],
-) {
-    let slab = slab_bytes(b);
-    let made = make_on(
-        head(w),
-        get(w, SIZE),
-        lent_lengths(w),
-        bt,
-        rt,
-        pt,
-        nt,
-        &slab,
-    );
+    bt: &mut [u32],
+    rt: &mut [u32],
+    pt: &mut [u32],
+    nt: &mut [u32],
+    slab: &[u8],
+) -> u32
+    ensures { λ r. ⌜ r ≡ getD (now (w .exit)) 6 0 ⌝ }
+{
+    let made = make_on(head(w), get(w, SIZE), lent_lengths(w), bt, rt, pt, nt, slab);
     note_head(w, made.head);
     put(w, STOP, made.refusal);
+    number_at(w, STOP)
 }
 
 // A fresh store of the sizes on trial. Its refusal is noted as the stop number. Answers it.
@@ -313,7 +337,8 @@ pub fn make(w: &mut Numbers, b: &Bytes) -> u32
     let mut rt = table(w, RECORD_TABLE);
     let mut pt = table(w, PLACE_TABLE);
     let mut nt = name_table(w);
-    make_with(w, b, &mut bt, &mut rt, &mut pt, &mut nt);
+    let slab = slab_bytes(b);
+    make_over(w, &mut bt, &mut rt, &mut pt, &mut nt, &slab);
     save_tables(w, &bt, &rt, &pt, &nt);
     number_at(w, STOP)
 }

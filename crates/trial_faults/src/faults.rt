@@ -1,5 +1,7 @@
 // Faults put into what the store gave, so that the comparison is seen to find them: one to a list, and taken out after it.
-// A number or a byte is more than the store gave, two records or two names stand in each other's row, or a page stands in another free place.
+// A number or a byte is more than the store gave, two records or two names stand in each other's row, a page stands in another free place,
+// or the branch rows are those of another rule.
+use crate::rows;
 use trial_words::layout::ANSWERS;
 use trial_words::layout::AREA;
 use trial_words::layout::BRANCH_TABLE;
@@ -42,7 +44,7 @@ ghost use lib.ListN.{getD};
 
 // The faults are numbered from 1, as the program `trials` names them.
 // Where a fault can stand: an index of the table of numbers; BYTES and an index of the table of bytes; two records in each other's row;
-// a record in another free place; two names in each other's row.
+// a record in another free place; two names in each other's row; branch rows, as the module for them numbers them.
 const BYTES: u32 = 65536;
 
 const SWAPPED: u32 = 131072;
@@ -52,7 +54,7 @@ const MOVED: u32 = 131073;
 
 const SWAPPED_NAMES: u32 = 131584;
 
-const NOWHERE: u32 = 4294967295;
+pub(crate) const NOWHERE: u32 = 4294967295;
 
 // One, but two at the end of the first branch, which is the largest number.
 fn step(w: &Numbers) -> u32 {
@@ -84,6 +86,7 @@ fn in_batch(w: &Numbers, b: &Bytes, fault: u32) -> u32 {
         40 => in_place(w, get(w, HEAD_RECORDS), largest_free(w)),
         41..=46 => in_names(w, fault, get(w, HEAD_NAMES)),
         47 => in_naming(b, listed(w, 0).operation),
+        50..=56 => in_reclaim(w, b, fault, listed(w, 0).operation),
         _ => NOWHERE,
     }
 }
@@ -117,6 +120,18 @@ fn in_naming(b: &Bytes, operation: u32) -> u32 {
     }
     if byte(b, ANSWERS) == 0 {
         plus(BYTES, plus(ANSWERS, 4))
+    } else {
+        NOWHERE
+    }
+}
+
+// The branch rows after an accepted reclaim.
+fn in_reclaim(w: &Numbers, b: &Bytes, fault: u32, operation: u32) -> u32 {
+    if operation != 5 {
+        return NOWHERE;
+    }
+    if byte(b, ANSWERS) == 0 {
+        rows::spot(w, fault)
     } else {
         NOWHERE
     }
@@ -262,6 +277,10 @@ fn shift(w: &mut Numbers, b: &mut Bytes, at: u32, by: u32) {
     }
     if at == SWAPPED_NAMES {
         swap_names(w);
+        return;
+    }
+    if rows::is_spot(at) {
+        rows::shift(w, at, by == 1);
         return;
     }
     if at < MOVED + 256 {

@@ -1,3 +1,4 @@
 // What is put wrong on purpose: one number of a store before a batch, or what the store gave after it.
 pub mod changes;
 pub mod faults;
+pub mod rows;

@@ -6,6 +6,7 @@ use trial_words::layout::AREA;
 use trial_words::layout::BLANK;
 use trial_words::layout::BRANCH_LENGTH;
 use trial_words::layout::BRANCH_TABLE;
+use trial_words::layout::BRANCHES;
 use trial_words::layout::Bytes;
 use trial_words::layout::COUNT;
 use trial_words::layout::DUE;
@@ -13,7 +14,6 @@ use trial_words::layout::HEAD;
 use trial_words::layout::HEAD_DUE;
 use trial_words::layout::HELD;
 use trial_words::layout::INPUT;
-use trial_words::layout::KEPT;
 use trial_words::layout::LAST;
 use trial_words::layout::NAME_LENGTH;
 use trial_words::layout::NAME_NUMBERS;
@@ -26,6 +26,7 @@ use trial_words::layout::PLACE_LENGTH;
 use trial_words::layout::PLACE_TABLE;
 use trial_words::layout::RECORD_LENGTH;
 use trial_words::layout::RECORD_TABLE;
+use trial_words::layout::ROWS;
 use trial_words::layout::RUNNING;
 use trial_words::layout::SEEN;
 use trial_words::layout::SENT;
@@ -208,6 +209,18 @@ fn number_wrong(b: &Bytes, at: u32, number: u32) -> u32 {
     plus(plus(first, second), plus(third, last))
 }
 
+// The answer to a read, by itself: its moment, and the page due with its date. Answers the differences in the list so far.
+pub fn judge_read(w: &mut Numbers, b: &Bytes, at: u32, moment: u32, date: u32, page: u32) -> u32
+    ensures { λ r. ⌜ r ≡ getD (now (w .exit)) 51 0 ⌝ }
+{
+    let present: u32 = if page == 0 { 0 } else { 2 };
+    let wrong = answer_wrong(b, at, present, moment);
+    same(w, wrong, 0);
+    let page_differs = page_wrong(b, plus(at, 5), date, page);
+    same(w, page_differs, 0);
+    number_at(w, WRONG)
+}
+
 // The stop number and the three counts; the answer area past the answers is untouched.
 fn judge_report(w: &mut Numbers, b: &Bytes) {
     let due = get(w, DUE);
@@ -231,13 +244,14 @@ fn same_numbers(w: &mut Numbers, i: u32, j: u32, n: u32) {
     }
 }
 
-// The store after a batch: its head, its records, its names, and that the next batch will find its tables sound. Answers the differences
-// in the list so far.
+// The store after a batch: its head, its branch rows, its names, its records, and that the next batch will find its tables sound. Answers
+// the differences in the list so far.
 pub fn judge_store(w: &mut Numbers, b: &Bytes) -> u32
     ensures { λ r. ⌜ r ≡ getD (now (w .exit)) 51 0 ⌝ }
 {
     expect_head(w);
     same_numbers(w, HEAD, HEAD_DUE, 6);
+    same_numbers(w, BRANCH_TABLE, ROWS, get(w, BRANCH_LENGTH));
     same_numbers(w, NAME_TABLE, NAME_ROWS, NAME_NUMBERS);
     let wrong = records_wrong(w, b, get(w, HELD));
     same(w, wrong, 0);
@@ -249,9 +263,9 @@ pub fn judge_store(w: &mut Numbers, b: &Bytes) -> u32
 // The head due: size, branches, records, now, floor, names.
 fn expect_head(w: &mut Numbers) {
     let size = get(w, SIZE);
-    let kept = get(w, KEPT);
+    let branches = get(w, BRANCHES);
     let held = get(w, HELD);
-    put_two(w, HEAD_DUE, size, kept);
+    put_two(w, HEAD_DUE, size, branches);
     put(w, HEAD_DUE + 2, held);
     expect_moments(w);
 }

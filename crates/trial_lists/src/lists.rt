@@ -124,6 +124,7 @@ pub fn list_batch(w: &mut Numbers, j: u32) -> u32
         0 => list_one(w, j),
         1 => list_all(w, n),
         3 => list_cut(w, n),
+        4 => list_back(w),
         5 => list_space(w, n),
         _ => list_drawn(w),
     }
@@ -165,6 +166,36 @@ fn list_drawn(w: &mut Numbers) {
     put(w, COUNT, n);
     draw_cut(w);
     draw_area(w, n % 16 * PAGE_ANSWER);
+}
+
+// One request of an operator who sets back.
+fn list_back(w: &mut Numbers) {
+    let r = drawn_back(w);
+    put_request(w, 0, r);
+    put(w, COUNT, 1);
+    put(w, AREA, PAGE_ANSWER);
+    put(w, CUT, 0);
+}
+
+// Seven of sixteen revert, six of them to one of the four moments before now, one to a named one; one reclaims to any moment from the
+// floor to now.
+fn drawn_back(w: &mut Numbers) -> Request {
+    let kind = draw(w, SEED, 16);
+    let some = draw(w, SEED, 4);
+    let row = draw(w, SEED, plus(get(w, NAMES), 1));
+    let floor = trial_reference::floor(w);
+    let now = trial_reference::now(w);
+    let above = draw(w, SEED, plus(minus(now, floor), 1));
+    let before = minus(now, plus(some, 1));
+    match kind {
+        0..=5 => plain(3, 0, before, 0),
+        6 => plain(3, 0, trial_reference::names::moment_of(w, row), 0),
+        7 => plain(5, 0, plus(floor, above), 0),
+        8..=10 => plain(1, some, 0, some),
+        11..=13 => plain(2, 0, 0, 0),
+        14 => plain(6, 0, before, some),
+        _ => plain(7, 0, 0, some),
+    }
 }
 
 fn draw_cut(w: &mut Numbers) {

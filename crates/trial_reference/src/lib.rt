@@ -1,17 +1,16 @@
 // The reference: a complete snapshot of the volume for each moment, the held pairs, now, floor and the names; plain, and slow on purpose.
-// Beside them it keeps which branch each moment belongs to, since a revert is refused by the number of branches kept, and the place of
-// each held pair. Readable are the moments from the floor to now and the named ones.
+// Beside them it keeps the branch rows and the place of each held pair. Readable are the moments from the floor to now and the named ones.
+pub mod branches;
 pub mod names;
 pub mod places;
 
 use trial_words::layout::BASE;
 use trial_words::layout::BELOW;
 use trial_words::layout::BRANCH_ROWS;
+use trial_words::layout::BRANCHES;
 use trial_words::layout::FLOOR;
 use trial_words::layout::HELD;
-use trial_words::layout::KEPT;
 use trial_words::layout::LAST;
-use trial_words::layout::MADE;
 use trial_words::layout::MOST_NAMES;
 use trial_words::layout::NAMES;
 use trial_words::layout::NOW;
@@ -34,19 +33,6 @@ use trial_words::words::put_two;
 ghost use mathlib.Core.Path.{_≡_};
 ghost use Prim.Native.Nat.{_+_, _*_, _%_, _<_, _≤_, _^_};
 ghost use lib.ListN.{length, getD};
-
-// The branch of a moment, the parent of a branch, and whether a branch is kept.
-fn branch_at(i: u32) -> u32 {
-    256 + i % 256
-}
-
-fn parent_at(b: u32) -> u32 {
-    512 + b % 256
-}
-
-fn kept_at(b: u32) -> u32 {
-    768 + b % 256
-}
 
 // A page of a snapshot: 0 or one more than its byte; then the moment of its write.
 fn page_at(i: u32, a: u32) -> u32
@@ -85,19 +71,10 @@ pub fn reset(w: &mut Numbers)
     ensures { λ _. ⌜ length (now (w .exit)) ≡ length (now (w .entry)) ⌝ }
 {
     put_two(w, NOW, 0, 0);
-    put_two(w, MADE, 1, 1);
     put(w, HELD, 0);
     places::free_all(w);
     names::forget_all(w);
-    reset_first(w);
-}
-
-fn reset_first(w: &mut Numbers)
-    ensures { λ _. ⌜ length (now (w .exit)) ≡ length (now (w .entry)) ⌝ }
-{
-    put(w, branch_at(0), 0);
-    put(w, parent_at(0), 0);
-    put(w, kept_at(0), 1);
+    branches::begin(w);
     clear_row(w, 0);
 }
 
@@ -157,44 +134,29 @@ fn write(w: &mut Numbers, a: u32, value: u32) -> u32 {
 }
 
 fn mark(w: &mut Numbers) -> u32 {
-    let i = get(w, NOW);
-    let branch = get(w, branch_at(i));
-    put(w, branch_at(plus(i, 1)), branch);
-    advance(w, i)
+    advance(w, get(w, NOW))
 }
 
-fn revert(w: &mut Numbers, from: u32) -> u32 {
-    let parent = get(w, branch_at(from));
-    let made = get(w, MADE);
-    let i = plus(get(w, NOW), 1);
-    put(w, branch_at(i), made);
-    make_branch(w, made, parent);
+fn revert(w: &mut Numbers, from: u32, moment: u32) -> u32 {
+    branches::make(w, now(w), moment);
     advance(w, from)
 }
 
-fn make_branch(w: &mut Numbers, made: u32, parent: u32) {
-    put(w, parent_at(made), parent);
-    put(w, kept_at(made), 1);
-    put_two(w, MADE, plus(made, 1), plus(get(w, KEPT), 1));
-}
-
-// A held pair stays held exactly if a readable snapshot has its page. Answers how many pairs ceased to be held.
+// A held pair stays held exactly if a readable snapshot has its page; then branches go. Answers how many pairs ceased to be held.
 fn reclaim(w: &mut Numbers, floor: u32) -> u32 {
     let before = get(w, HELD);
     let end = plus(get(w, NOW), 1);
     put(w, FLOOR, floor);
-    see_readable(w, floor, end, get(w, MADE));
+    see_readable(w, floor, end);
     release_all(w, end);
+    branches::settle(w, get(w, BRANCHES));
     minus(before, get(w, HELD))
 }
 
-fn see_readable(w: &mut Numbers, floor: u32, end: u32, made: u32) {
+fn see_readable(w: &mut Numbers, floor: u32, end: u32) {
     clear_stays(w, end);
-    clear_kept(w, made);
-    put(w, KEPT, 0);
     see_all(w, floor, end);
     see_named(w, get(w, NAMES));
-    count_kept(w, made);
 }
 
 fn clear_stays(w: &mut Numbers, end: u32) {
@@ -203,28 +165,17 @@ fn clear_stays(w: &mut Numbers, end: u32) {
     }
 }
 
-fn clear_kept(w: &mut Numbers, made: u32) {
-    for b in 0..made {
-        put(w, kept_at(b), 0);
-    }
-}
-
-// The pairs of each readable snapshot stay, and the branches on its way to the first.
+// The pairs of each readable snapshot stay.
 fn see_all(w: &mut Numbers, floor: u32, end: u32) {
     for i in floor..end {
-        see(w, i);
+        see_pages(w, i);
     }
 }
 
 fn see_named(w: &mut Numbers, n: u32) {
     for k in 0..n {
-        see(w, index(w, names::moment_of(w, k)));
+        see_pages(w, index(w, names::moment_of(w, k)));
     }
-}
-
-fn see(w: &mut Numbers, i: u32) {
-    see_pages(w, i);
-    climb(w, get(w, branch_at(i)));
 }
 
 fn see_pages(w: &mut Numbers, i: u32) {
@@ -237,29 +188,6 @@ fn see_page(w: &mut Numbers, i: u32, a: u32) {
     if get(w, page_at(i, a)) != 0 {
         let moment = get(w, plus(page_at(i, a), 1));
         put(w, stays_at(moment, a), 1);
-    }
-}
-
-// A branch and its parents up to the first, which is branch 0, are kept.
-fn climb(w: &mut Numbers, branch: u32) {
-    let mut b = branch;
-    for _ in 0..256u32 {
-        put(w, kept_at(b), 1);
-        if b == 0 {
-            return;
-        }
-        b = get(w, parent_at(b));
-    }
-}
-
-fn count_branch(w: &mut Numbers, b: u32) {
-    let one = get(w, kept_at(b));
-    add(w, KEPT, one);
-}
-
-fn count_kept(w: &mut Numbers, made: u32) {
-    for b in 0..made {
-        count_branch(w, b);
     }
 }
 
@@ -303,7 +231,7 @@ pub fn feed(w: &mut Numbers, r: Request) -> u32
     match operation {
         1 => write(w, r.address, r.value),
         2 => mark(w),
-        3 => revert(w, i),
+        3 => revert(w, i, r.moment),
         4 => r.moment,
         5 => reclaim(w, i),
         _ => feed_name(w, operation, r.value, r.moment),
@@ -392,7 +320,7 @@ fn revert_refusal(w: &Numbers, moment: u32) -> u32
     if now(w) == LAST {
         return 10;
     }
-    if get(w, KEPT) >= get(w, BRANCH_ROWS) {
+    if get(w, BRANCHES) >= get(w, BRANCH_ROWS) {
         7
     } else {
         0

@@ -2,6 +2,7 @@
 use trial_calls::calls;
 use trial_faults::changes;
 use trial_faults::faults;
+use trial_faults::rows;
 use trial_judge::judge;
 use trial_lists::encoding;
 use trial_lists::lists;
@@ -105,6 +106,7 @@ fn hand_in(w: &mut Numbers, b: &mut Bytes, turn: u32) {
 
 fn prepare(w: &mut Numbers, turn: u32) {
     if turn == PLAY {
+        rows::note_before(w);
         lists::list_batch(w, get(w, BATCH));
         return;
     }

@@ -42,16 +42,14 @@ pub const RECORD_ROWS: u32 = 18;
 
 pub const PLACE_ROWS: u32 = 19;
 
-// The reference: moments count from the base; now and floor; branches made and branches kept; held pairs; names given.
+// The reference: moments count from the base; now and floor; branches; held pairs; names given.
 pub const BASE: u32 = 20;
 
 pub const NOW: u32 = 21;
 
 pub const FLOOR: u32 = 22;
 
-pub const MADE: u32 = 23;
-
-pub const KEPT: u32 = 24;
+pub const BRANCHES: u32 = 24;
 
 pub const HELD: u32 = 25;
 
@@ -131,6 +129,20 @@ pub const FAULTS: u32 = 62;
 // How often a moment below the floor was accepted, by operation.
 pub const BELOW: u32 = 64;
 
+// How often a branch went in a reclaim, and its cut was taken over; how often one stayed for a named moment only, or for a record only.
+pub const WENT: u32 = 72;
+
+pub const TAKEN_OVER: u32 = 73;
+
+pub const FOR_NAME: u32 = 74;
+
+pub const FOR_RECORD: u32 = 75;
+
+// The weekly run: how many weeks the floor is behind, and the largest count of branches.
+pub const BEHIND: u32 = 76;
+
+pub const LARGEST: u32 = 77;
+
 // The place that the batch took last; how often another choice would have given another place, for four choices; the 16 places.
 pub const LAST_TAKEN: u32 = 37;
 
@@ -142,6 +154,17 @@ pub const PLACES: u32 = 112;
 pub const HEAD_DUE: u32 = 80;
 
 pub const TOUCHED: u32 = 86;
+
+// Branch rows (21 of three numbers) and their counts: the reference's; the store's before a batch and as it gave them, where a fault is put in.
+pub const ROWS: u32 = 256;
+
+pub const ROWS_BEFORE: u32 = 320;
+
+pub const ROWS_GIVEN: u32 = 384;
+
+pub const COUNT_BEFORE: u32 = 448;
+
+pub const COUNT_GIVEN: u32 = 449;
 
 // The tables that are lent to the store.
 pub const BRANCH_TABLE: u32 = 5120;

@@ -2,6 +2,9 @@
 mod text;
 
 use trial_turns::family;
+use trial_weekly::BRANCH_ROWS;
+use trial_weekly::WEEKS;
+use trial_weekly::ways;
 use trial_words::layout::BASE;
 use trial_words::layout::BATCHES;
 use trial_words::layout::BELOW;
@@ -12,6 +15,9 @@ use trial_words::layout::DIFFER;
 use trial_words::layout::FAULT;
 use trial_words::layout::FAULTS;
 use trial_words::layout::FIRST;
+use trial_words::layout::FOR_NAME;
+use trial_words::layout::FOR_RECORD;
+use trial_words::layout::LARGEST;
 use trial_words::layout::MODE;
 use trial_words::layout::NAME_NUMBERS;
 use trial_words::layout::Numbers;
@@ -21,7 +27,10 @@ use trial_words::layout::SEED;
 use trial_words::layout::SEEN;
 use trial_words::layout::SIZE;
 use trial_words::layout::SLAB_LENGTH;
+use trial_words::layout::TAKEN_OVER;
 use trial_words::layout::TOLD;
+use trial_words::layout::WENT;
+use trial_words::layout::WRONG;
 use trial_words::words::get;
 use trial_words::words::plus;
 use trial_words::words::put;
@@ -37,8 +46,8 @@ struct Spread {
     lists: u32,
 }
 
-// The families of the faults are the last: without names, and with names.
-const FAULT_FAMILY: u32 = 30;
+// The families of the faults are the last: without names, with names, and with the rows that a reclaim leaves.
+const FAULT_FAMILY: u32 = 31;
 
 fn numbers() -> [u32; 5632]
     ensures { λ r. ⌜ length r ≡ 5632 ⌝ }
@@ -78,7 +87,7 @@ fn in_family(k: u32) -> Spread {
         17 => lists_of(2, 1, 10, 1000),
         18 => lists_of(0, 18, 2, 324),
         19 => lists_of(2, 1, 40, 100),
-        30 => lists_of(0, 18, 2, 324),
+        31 => lists_of(0, 18, 2, 324),
         _ => with_names(k),
     }
 }
@@ -96,6 +105,8 @@ fn with_names(k: u32) -> Spread {
         27 => lists_of(2, 1, 10, 1000),
         28 => lists_of(0, 7, 3, 343),
         29 => lists_of(2, 1, 40, 50),
+        30 => lists_of(4, 1, 120, 400),
+        33 => lists_of(4, 1, 60, 100),
         _ => lists_of(0, 10, 3, 1000),
     }
 }
@@ -105,7 +116,7 @@ fn store_of(k: u32) -> u32 {
     match k {
         13 => 0,
         10 | 15 | 17 | 27 => 2,
-        16 | 19 | 26 | 29 => 3,
+        16 | 19 | 26 | 29 | 30 | 33 => 3,
         _ => 1,
     }
 }
@@ -116,7 +127,7 @@ fn first_of(k: u32) -> u32 {
         11 | 12 => 18,
         20..=22 => 23,
         23 | 24 => 33,
-        28 | 31 => 23,
+        28 | 32 => 23,
         _ => 0,
     }
 }
@@ -194,7 +205,7 @@ fn run_family(w: &mut Numbers, k: u32) {
 }
 
 fn run_families(w: &mut Numbers) {
-    for k in 0..30u32 {
+    for k in 0..31u32 {
         run_family(w, k);
     }
 }
@@ -252,6 +263,19 @@ fn say_below(w: &Numbers) {
     io::write_all(1, b"\n");
 }
 
+// What reclaims left of the branches.
+fn say_settled(w: &Numbers) {
+    io::write_all(1, b"in a reclaim a branch went");
+    say_count(w, WENT);
+    io::write_all(1, b", a cut was taken over");
+    say_count(w, TAKEN_OVER);
+    io::write_all(1, b", a branch stayed for a name only");
+    say_count(w, FOR_NAME);
+    io::write_all(1, b", for a record only");
+    say_count(w, FOR_RECORD);
+    io::write_all(1, b"\n");
+}
+
 fn say_seen(w: &Numbers) {
     for k in 1..18u32 {
         say_count(w, plus(SEEN, k));
@@ -267,16 +291,16 @@ fn in_refused(fault: u32) -> u32 {
     }
 }
 
-// Faults from the 41st on are of names.
+// Faults from the 41st on are of names, from the 50th on of reclaims.
 fn fault_family(fault: u32) -> u32 {
-    if fault < 41 {
-        FAULT_FAMILY
-    } else {
-        FAULT_FAMILY + 1
+    match fault {
+        1..=40 => FAULT_FAMILY,
+        41..=49 => FAULT_FAMILY + 1,
+        _ => FAULT_FAMILY + 2,
     }
 }
 
-// All lists of two letters of 18, or of three of the 10 with names, with a fault in what the store gave.
+// All lists of two letters of 18, or of three of the 10 with names, or of an operator who sets back, with a fault in what the store gave.
 fn with_fault(w: &mut Numbers, fault: u32) {
     set_family(w, fault_family(fault));
     put(w, FAULT, fault);
@@ -289,9 +313,60 @@ fn with_fault(w: &mut Numbers, fault: u32) {
 }
 
 fn all_faults(w: &mut Numbers) {
-    for fault in 1..50u32 {
+    for fault in 1..57u32 {
         with_fault(w, fault);
     }
+}
+
+// How many requests were refused with another number than 7.
+fn other_refusals(w: &Numbers) -> u32 {
+    let mut count: u32 = 0;
+    for k in 1..32u32 {
+        if k != 7 {
+            count = plus(count, get(w, plus(SEEN, k)));
+        }
+    }
+    count
+}
+
+// A hundred years of weekly setting-back.
+fn weekly(behind: u32) {
+    let mut w = numbers();
+    trial_weekly::run(&mut w, behind);
+    io::write_all(1, b"weekly, ");
+    io::print_decimal(1, WEEKS as u64);
+    io::write_all(1, b" weeks, ");
+    io::print_decimal(1, BRANCH_ROWS as u64);
+    io::write_all(1, b" branch rows, a reclaim every 4 weeks, the floor ");
+    io::print_decimal(1, behind as u64);
+    io::write_all(1, b" weeks behind: at most ");
+    say(&w, LARGEST);
+    io::write_all(1, b" branches, ");
+    say_weekly(&w);
+}
+
+fn say_weekly(w: &Numbers) {
+    io::write_all(1, b"refused with 7:");
+    say_count(w, SEEN + 7);
+    io::write_all(1, b", with another number: ");
+    io::print_decimal(1, other_refusals(w) as u64);
+    io::write_all(1, b", ");
+    say(w, READ);
+    io::write_all(1, b" pages read back, ");
+    say(w, WRONG);
+    io::write_all(1, b" differ\n");
+}
+
+// The same branches where those on the way from now to the first stay.
+fn say_ways() {
+    io::write_all(
+        1,
+        b"weekly, where the branches on the way to the first stay: ",
+    );
+    io::print_decimal(1, BRANCH_ROWS as u64);
+    io::write_all(1, b" of them after ");
+    io::print_decimal(1, ways::full_after(BRANCH_ROWS) as u64);
+    io::write_all(1, b" weeks\n");
 }
 
 fn main() {
@@ -303,5 +378,9 @@ fn main() {
     io::write_all(1, b"\n");
     say_told(&w);
     say_below(&w);
+    say_settled(&w);
+    weekly(4);
+    weekly(52);
+    say_ways();
     all_faults(&mut w);
 }

@@ -27,7 +27,8 @@ drawn, 4 names, 3 branch rows\n\
 drawn, 128 names, 16 branch rows\n\
 drawn, 4 names, up to the last moment\n\
 7 letters with names, length 3, each number of the store changed\n\
-drawn, 128 names, 16 branch rows, each number of the store changed";
+drawn, 128 names, 16 branch rows, each number of the store changed\n\
+drawn, set back into the last moments, 4 names, 16 branch rows";
     let line: u32 = if k < 7 { 0 } else { minus(k, 6) };
     say_line(names, line);
     io::write_all(1, b": ");
@@ -35,45 +36,30 @@ drawn, 128 names, 16 branch rows, each number of the store changed";
 
 pub(crate) fn say_fault(fault: u32) {
     let names = b"\n\
-an answer's first byte\nthe number's first byte\nthe number's second byte\n\
-the number's third byte\nthe number's last byte\n\
-the last byte of a page read back\n\
-the stop number\nthe requests answered\n\
-the bytes of the requests\nthe bytes of the answers\n\
-the head's size\nthe head's branches\n\
-the head's records\nthe head's now\n\
-the head's floor\n\
-the last record's address\nthe last record's moment\n\
-the order of the first two records\n\
-the last byte of the last record's page\n\
-the last record's place row\n\
-the first byte past the answers\n\
-the last byte of the answer area\n\
-the stop number of a refused store\n\
-the head of a refused store\n\
-the branch rows of a refused store\n\
-the record rows of a refused store\n\
-the place rows of a refused store\n\
-the slab of a refused store\n\
-the answer area of a refused store\n\
-the refusal of a fresh store\n\
-the head of a fresh store\n\
-the end of the first branch of a fresh store\n\
-the record rows of a fresh store\n\
-the place rows of a fresh store\n\
-the other branch rows of a fresh store\n\
+an answer's first byte\nthe number's first byte\nthe number's second byte\nthe number's third byte\n\
+the number's last byte\nthe last byte of a page read back\nthe stop number\nthe requests answered\n\
+the bytes of the requests\nthe bytes of the answers\nthe head's size\nthe head's branches\n\
+the head's records\nthe head's now\nthe head's floor\nthe last record's address\n\
+the last record's moment\nthe order of the first two records\n\
+the last byte of the last record's page\nthe last record's place row\n\
+the first byte past the answers\nthe last byte of the answer area\n\
+the stop number of a refused store\nthe head of a refused store\n\
+the branch rows of a refused store\nthe record rows of a refused store\n\
+the place rows of a refused store\nthe slab of a refused store\nthe answer area of a refused store\n\
+the refusal of a fresh store\nthe head of a fresh store\n\
+the end of the first branch of a fresh store\nthe record rows of a fresh store\n\
+the place rows of a fresh store\nthe other branch rows of a fresh store\n\
 the first byte of a date read back\nthe second byte of a date read back\n\
 the third byte of a date read back\nthe last byte of a date read back\n\
-the place of the last record, another free one\n\
-the head's names\n\
-the first number of the last name\n\
-the second number of the last name\n\
-the moment of the last name\n\
-the name row behind the last\n\
-the order of the first two names\n\
-the moment that a naming answers with\n\
-the name rows of a fresh store\n\
-the name rows of a refused store";
+the place of the last record, another free one\nthe head's names\n\
+the first number of the last name\nthe second number of the last name\nthe moment of the last name\n\
+the name row behind the last\nthe order of the first two names\n\
+the moment that a naming answers with\nthe name rows of a fresh store\n\
+the name rows of a refused store\nthe rows of a reclaim, one gone that holds a kept record\n\
+the rows of a reclaim, one gone that holds a named moment\n\
+the rows of a reclaim, one gone that ends at the floor\nthe rows of a reclaim, the first gone\n\
+the rows of a reclaim, a cut not taken over\nthe rows of a reclaim, a cut taken over once only\n\
+the rows of a reclaim, all kept";
     io::write_all(1, b"a fault in ");
     say_line(names, fault);
     io::write_all(1, b": put into ");

@@ -3,3 +3,4 @@ pub mod Refusals
 pub mod Dates
 pub mod Packed
 pub mod Names
+pub mod Weekly

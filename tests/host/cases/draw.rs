@@ -96,12 +96,13 @@ pub struct Mix {
     pub withdraw: u64,
 }
 
-pub const MIXES: [Mix; 5] = [
+pub const MIXES: [Mix; 6] = [
     Mix { write: 30, mark: 20, revert: 20, read: 15, reclaim: 15, name: 10, withdraw: 6 },
     Mix { write: 25, mark: 10, revert: 45, read: 10, reclaim: 10, name: 4, withdraw: 1 },
     Mix { write: 35, mark: 10, revert: 20, read: 5, reclaim: 30, name: 10, withdraw: 2 },
     Mix { write: 40, mark: 5, revert: 15, read: 30, reclaim: 10, name: 4, withdraw: 4 },
     Mix { write: 20, mark: 15, revert: 10, read: 15, reclaim: 20, name: 40, withdraw: 8 },
+    Mix { write: 6, mark: 25, revert: 40, read: 10, reclaim: 20, name: 4, withdraw: 2 },
 ];
 
 /// What the requests of a list are drawn from; now, floor and names are guessed ahead over the batch.

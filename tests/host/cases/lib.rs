@@ -4,17 +4,23 @@
 use reference::pictures::Pile;
 use reference::*;
 
+mod chains;
 mod copies;
 mod draw;
 mod names;
 mod packed;
 mod tables;
+mod taken_out;
+mod weekly;
 
+use chains::chains;
 use copies::copies;
 use draw::*;
 use names::names;
 use packed::packed;
 use tables::*;
+use taken_out::{Counting, TakenOut};
+use weekly::weekly;
 
 /// A host that lends areas to the library, calls it and compares.
 pub trait Host {
@@ -35,6 +41,8 @@ pub trait Host {
     fn note(&mut self, what: &str);
     /// A difference between the reference and the pile of pictures.
     fn pile_differs(&mut self, what: &str);
+    /// The reference is about to carry out a reclaim to this floor, in this store, that keeps this.
+    fn reclaims(&mut self, _store: &Store, _floor: u32, _kept: &Kept) {}
 }
 
 // ---------------------------------------------------------------------------------------------
@@ -90,7 +98,13 @@ impl<'a> Run<'a> {
 
     fn batch(&mut self, bytes: &[u8], before: &[u8], watch: impl FnMut(&Request, &Answer)) -> (Report, Vec<u8>) {
         let mut after = before.to_vec();
-        let report = batch_watched(&mut self.areas, bytes, &mut after, watch);
+        let host = &mut *self.host;
+        let follow = |store: &Store, change: &Change| {
+            if let Change::Reclaim { floor, kept } = change {
+                host.reclaims(store, *floor, kept);
+            }
+        };
+        let report = batch_followed(&mut self.areas, bytes, &mut after, follow, watch);
         self.host.batch(bytes, before, &report, &after);
         if self.always {
             self.host.compare(&self.areas);
@@ -266,9 +280,23 @@ pub fn examples(host: &mut dyn Host, seed: u64) {
         reclaim(4),
         read(5, 4),
     ];
+    // The cut of the open row is taken over from 4 to 2 and to 0; then a row stays for its page, and one for a name.
+    let week = |sealed: u64| [mark(), revert(sealed)].concat();
+    let weekly = vec![
+        [week(0), week(2), week(4)].concat(),
+        reclaim(6),
+        [write(5, &page(b'A')), week(6), week(8), week(10), name(11, b"in a row")].concat(),
+        [week(12), week(14), reclaim(16), reclaim(16)].concat(),
+        read(5, 16),
+        read(5, 11),
+        [revert(11), read(5, 17), read(5, 10)].concat(),
+        [withdraw(b"in a row"), reclaim(16), reclaim(17), week(17)].concat(),
+        [write(5, &page(b'B')), mark(), reclaim(20), read(5, 20)].concat(),
+    ];
     let lists = [
         (usual, session),
         (usual, named),
+        ((64, 7, 2, 2), weekly),
         (usual, vec![write(5, &page(b'A')), write(5, &page(b'B'))]),
         (usual, vec![mark(), revert(1), revert(0)]),
         (usual, vec![[mark(), revert(0), read(5, 2)].concat()]),
@@ -652,6 +680,7 @@ pub struct Counts {
 
 /// All families, in order. `scale` is in hundredths of the usual number of cases.
 pub fn all(host: &mut dyn Host, seed: u64, scale: u64, families: &str) {
+    let host = &mut Counting { host, taken_out: TakenOut::default() };
     let part = |usual: u64| (usual * scale / 100).max(1);
     let chosen = |name: &str| families == "all" || families.split(',').any(|family| family == name);
     if chosen("examples") {
@@ -668,6 +697,9 @@ pub fn all(host: &mut dyn Host, seed: u64, scale: u64, families: &str) {
     }
     if chosen("names") {
         names(host, seed, part(3_000));
+    }
+    if chosen("chains") {
+        chains(host, seed, part(3_000));
     }
     if chosen("copies") {
         copies(host, seed, part(1_500));
@@ -689,5 +721,8 @@ pub fn all(host: &mut dyn Host, seed: u64, scale: u64, families: &str) {
     }
     if chosen("years") {
         hundred_years(host, seed, part(5_218), 261);
+    }
+    if chosen("weekly") {
+        weekly(host, seed, part(5_218));
     }
 }

@@ -26,8 +26,8 @@ type Seen = [u64; WHAT.len()];
 
 /// A batch as it is drawn. The reference carries out each request at once, so that the next one is drawn from the tables as
 /// they stand.
-struct Draft {
-    areas: Areas,
+pub struct Draft {
+    pub areas: Areas,
     bytes: Vec<u8>,
     /// The bytes that the answers take.
     needed: usize,
@@ -37,13 +37,13 @@ struct Draft {
 }
 
 impl Draft {
-    fn new(run: &Run) -> Draft {
+    pub fn new(run: &Run) -> Draft {
         let areas = run.areas.clone();
         Draft { last: (areas.clone(), Vec::new()), areas, bytes: Vec::new(), needed: 0, seen: [0; WHAT.len()] }
     }
 
     /// Adds a request and carries it out; its answer.
-    fn add(&mut self, bytes: Vec<u8>) -> Answer {
+    pub fn add(&mut self, bytes: Vec<u8>) -> Answer {
         self.last = (self.areas.clone(), bytes.clone());
         let before = rows(&self.areas);
         let mut served = None;
@@ -87,16 +87,16 @@ impl Draft {
         }
     }
 
-    fn outlook(&self) -> Outlook {
+    pub fn outlook(&self) -> Outlook {
         outlook_of(&self.areas, 12)
     }
 
-    fn now(&self) -> u64 {
+    pub fn now(&self) -> u64 {
         self.outlook().now
     }
 
     /// Writes to each address with this chance in hundredths, to one at least; then seals the moment, which is the result.
-    fn change(&mut self, draw: &mut Draw, chance: u64) -> u64 {
+    pub fn change(&mut self, draw: &mut Draw, chance: u64) -> u64 {
         let size = self.outlook().size;
         let one = draw.below(size);
         for address in 0..size {
@@ -119,20 +119,20 @@ impl Draft {
     }
 
     /// Gives the moment a new name, which is the result.
-    fn name(&mut self, draw: &mut Draw, moment: u64) -> [u8; NAME_BYTES] {
+    pub fn name(&mut self, draw: &mut Draw, moment: u64) -> [u8; NAME_BYTES] {
         let bytes = self.new_name(draw);
         self.add(name(moment, &bytes));
         bytes
     }
 
-    fn read_at(&mut self, moment: u64) {
+    pub fn read_at(&mut self, moment: u64) {
         for address in 0..self.outlook().size {
             self.add(read(address, moment));
         }
     }
 
     /// Reads everything at all named moments, and at those beside them.
-    fn read_named(&mut self, draw: &mut Draw) {
+    pub fn read_named(&mut self, draw: &mut Draw) {
         for named in self.outlook().names {
             self.read_at(u64::from(named.moment));
             if draw.percent(20) {
@@ -174,7 +174,7 @@ impl Draft {
     }
 
     /// Withdraws the name, and asks for what is then no longer there.
-    fn withdraw(&mut self, draw: &mut Draw, row: Name) {
+    pub fn withdraw(&mut self, draw: &mut Draw, row: Name) {
         let moment = u64::from(row.moment);
         self.add(withdraw(&row.bytes));
         self.add(withdraw(&row.bytes));
@@ -225,7 +225,7 @@ impl Draft {
 
     /// Sends the batch, mostly with something behind it that stops it; or with an answer area that is one byte short, and
     /// then its last request again.
-    fn send(self, run: &mut Run, draw: &mut Draw, pile: &mut Option<Pile>) -> Seen {
+    pub fn send(&self, run: &mut Run, draw: &mut Draw, pile: &mut Option<Pile>) -> Seen {
         if draw.percent(20) && !self.bytes.is_empty() {
             let area = draw.bytes(self.needed - 1);
             let (report, _) = run.batch_beside(pile, &self.bytes, &area);
@@ -237,7 +237,7 @@ impl Draft {
             let (tail, stop) = if draw.percent(70) { drawn_tail(draw) } else { (Vec::new(), 0) };
             let room = self.needed + draw.below(20) as usize;
             let area = draw.bytes(room);
-            let (report, _) = run.batch_beside(pile, &[self.bytes, tail].concat(), &area);
+            let (report, _) = run.batch_beside(pile, &[self.bytes.as_slice(), &tail].concat(), &area);
             assert_eq!(report.stop, stop);
         }
         assert!(run.areas == self.areas, "a batch serves its requests as one batch for each would");

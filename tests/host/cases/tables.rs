@@ -179,7 +179,8 @@ pub fn drawn_sound(draw: &mut Draw, sizes: &Sizes) -> Areas {
     laid_out(draw, sizes, &rows, &pairs, &names, now, floor)
 }
 
-/// Sound tables with all branch rows in use and the record and place tables full or nearly so.
+/// Sound tables with all branch rows in use and the record and place tables full or nearly so. In two of four tables the
+/// records are of few addresses: then most rows go with a reclaim, and long lines of cuts are taken over.
 pub fn drawn_full(draw: &mut Draw, sizes: &Sizes, table: u64) -> Areas {
     let mut rows: Vec<(u64, u64, u64)> = Vec::new();
     let mut next = 0;
@@ -201,7 +202,7 @@ pub fn drawn_full(draw: &mut Draw, sizes: &Sizes, table: u64) -> Areas {
     let record_count = sizes.records - if table % 2 == 0 { 0 } else { 4 };
     let mut pairs = BTreeSet::new();
     while pairs.len() < record_count {
-        let address = if draw.percent(50) { draw.below(400) } else { draw.below(65_536) };
+        let address = if table % 4 >= 2 || draw.percent(50) { draw.below(400) } else { draw.below(65_536) };
         pairs.insert((address as u32, draw.below(now + 1) as u32));
     }
     let names = drawn_names(draw, &rows, now, if table % 2 == 0 { 32 } else { 3 });

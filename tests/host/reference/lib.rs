@@ -1,4 +1,4 @@
-//! The page history store of document 01, with change requests One to Three of document 02, written from
+//! The page history store of document 01, with change requests One to Four of document 02, written from
 //! these documents alone and as plainly as they read. It works on the same byte areas as the library that
 //! it is compared with: every number of head and tables is four bytes, most significant first. Each batch
 //! turns the bytes into rows, checks them, serves the requests on the rows and turns the rows back into
@@ -113,7 +113,7 @@ pub struct Kept {
 }
 
 /// What an accepted request changes.
-enum Change {
+pub enum Change {
     Nothing,
     Write { address: u32, page: Vec<u8> },
     Mark,
@@ -455,12 +455,10 @@ impl Store {
     // Reclaiming
 
     /// What a reclaim keeps, as the documents define it: each record that some read from the floor to
-    /// now, or at a named moment, gives, each branch on the way from such a moment through parents to the
-    /// first row.
+    /// now, or at a named moment, gives; and the branches by these records.
     pub fn kept_by_every_moment(&self, floor: u32) -> Kept {
         let records = self.counted_records();
-        let mut kept =
-            Kept { records: vec![false; records.len()], branches: vec![false; self.counted_branches().len()] };
+        let mut kept = Kept { records: vec![false; records.len()], branches: Vec::new() };
         let named = self.counted_names().iter().map(|name| name.moment);
         for moment in (floor..=self.head.now).chain(named) {
             for record in records {
@@ -468,18 +466,27 @@ impl Store {
                     kept.records[row] = true;
                 }
             }
-            self.keep_way(moment, &mut kept.branches);
         }
+        kept.branches = self.kept_branches(floor, &kept.records);
         kept
     }
 
-    fn keep_way(&self, moment: u32, keep: &mut [bool]) {
-        let mut branch = self.branch_holding(moment).expect("a readable moment lies inside a counted row");
-        keep[branch] = true;
-        while branch != 0 {
-            branch = self.parent(branch);
-            keep[branch] = true;
+    /// The branches that a reclaim keeps, which keeps these records (document 02, Four): the first row, rows that
+    /// end at or above the floor, rows that hold a named moment, and rows that hold a kept record.
+    fn kept_branches(&self, floor: u32, records: &[bool]) -> Vec<bool> {
+        let holding = |moment| self.branch_holding(moment).expect("the moment lies inside a counted row");
+        let rows = self.counted_branches();
+        let mut keep: Vec<bool> = rows.iter().map(|row| row.start == 0 || row.end >= floor).collect();
+        let named = self.counted_names().iter().map(|name| name.moment);
+        for moment in named {
+            keep[holding(moment)] = true;
         }
+        for (row, record) in self.counted_records().iter().enumerate() {
+            if records[row] {
+                keep[holding(record.moment)] = true;
+            }
+        }
+        keep
     }
 
     fn parent(&self, branch: usize) -> usize {
@@ -497,30 +504,29 @@ impl Store {
     /// - there is no r: then there is none from b's start to f either, and both reads go on in the
     ///   parent with the same cut.
     /// So it is enough to keep the records at the floor or later, and what reads at the first readable
-    /// moments give. The branches on the way depend on b alone. What reads at named moments give, and the
-    /// branches on their way, are kept besides, each for itself.
+    /// moments give. What reads at named moments give is kept besides, each for itself.
     ///
-    /// Each branch on the way is searched from its start up to a moment: the first readable moment in
-    /// b, the cut below it in the others. A parent's part lies before its child's, so the first
-    /// record that the search finds is the latest of all records that lie in one of these parts.
+    /// A read searches its branch, the parent of that, and so on to the first row, each from its start up
+    /// to a moment: the first readable moment in b, the cut of the child in the others. A parent's part lies
+    /// before its child's, so the first record that the search finds is the latest of all records that lie
+    /// in one of these parts.
     pub fn kept_by_branch(&self, floor: u32) -> Kept {
         let records = self.counted_records();
         let branches = self.counted_branches();
-        let mut kept = Kept { records: vec![false; records.len()], branches: vec![false; branches.len()] };
+        let mut kept = Kept { records: vec![false; records.len()], branches: Vec::new() };
         let holding = |moment| self.branch_holding(moment).expect("the moment lies inside a counted row");
         let branch_of: Vec<usize> = records.iter().map(|record| holding(record.moment)).collect();
         let first = branches.iter().filter(|row| row.end >= floor).map(|row| row.start.max(floor));
         let named = self.counted_names().iter().map(|name| name.moment);
         for moment in first.chain(named) {
-            self.keep_way(moment, &mut kept.branches);
-            let searched = self.searched_up_to(holding(moment), moment);
+            let up_to = self.searched_up_to(holding(moment), moment);
             for row in 0..records.len() {
-                let on_way = |row: usize| searched[branch_of[row]].is_some_and(|to| records[row].moment <= to);
-                let last_on_way = on_way(row)
+                let searched = |row: usize| up_to[branch_of[row]].is_some_and(|to| records[row].moment <= to);
+                let last_searched = searched(row)
                     && !(row + 1..records.len())
                         .take_while(|later| records[*later].address == records[row].address)
-                        .any(on_way);
-                if last_on_way {
+                        .any(searched);
+                if last_searched {
                     kept.records[row] = true;
                 }
             }
@@ -530,6 +536,7 @@ impl Store {
                 kept.records[row] = true;
             }
         }
+        kept.branches = self.kept_branches(floor, &kept.records);
         kept
     }
 
@@ -554,20 +561,30 @@ impl Store {
         }
     }
 
+    /// Where a row goes, each child takes over its cut: the rows go one by one, newest first, and the child of a child
+    /// that has gone is a child by then. (Any order gives the same rows.) The rows behind close the gap, and the
+    /// row that is vacated becomes zero.
+    pub fn take_out(&mut self, row: usize) {
+        let gone = self.branches[row];
+        let count = self.head.branch_count as usize;
+        for child in &mut self.branches[row + 1..count] {
+            if gone.start <= child.cut && child.cut <= gone.end {
+                child.cut = gone.cut;
+            }
+        }
+        self.branches.copy_within(row + 1..count, row);
+        self.branches[count - 1] = Branch { start: 0, end: 0, cut: 0 };
+        self.head.branch_count -= 1;
+    }
+
     fn reclaim(&mut self, floor: u32, kept: &Kept) {
         self.head.floor = floor;
 
-        let mut to = 0;
-        for (from, keep) in kept.branches.iter().enumerate() {
-            if *keep {
-                self.branches[to] = self.branches[from];
-                to += 1;
+        for row in (0..kept.branches.len()).rev() {
+            if !kept.branches[row] {
+                self.take_out(row);
             }
         }
-        for row in to..kept.branches.len() {
-            self.branches[row] = Branch { start: 0, end: 0, cut: 0 };
-        }
-        self.head.branch_count = to as u32;
 
         let mut to = 0;
         for (from, keep) in kept.records.iter().enumerate() {
@@ -829,6 +846,17 @@ pub fn batch_watched(
     areas: &mut Areas,
     batch: &[u8],
     answers: &mut [u8],
+    watch: impl FnMut(&Request, &Answer),
+) -> Report {
+    batch_followed(areas, batch, answers, |_, _| {}, watch)
+}
+
+/// The same, telling before that what is changed, with the store that it is changed in.
+pub fn batch_followed(
+    areas: &mut Areas,
+    batch: &[u8],
+    answers: &mut [u8],
+    mut follow: impl FnMut(&Store, &Change),
     mut watch: impl FnMut(&Request, &Answer),
 ) -> Report {
     if !lengths_allowed(areas) {
@@ -860,6 +888,7 @@ pub fn batch_watched(
             report.stop = 14;
             break;
         }
+        follow(&store, &change);
         store.carry_out(change);
         room[..written.len()].copy_from_slice(&written);
         report.answered += 1;

@@ -312,37 +312,47 @@ fn reclaim_keeps_by_branch() {
     assert_eq!(answers(&mut store, &[reclaim(3)]), [(0, 0, None)]);
 }
 
+struct Drawn(u64);
+
+impl Drawn {
+    fn below(&mut self, limit: u64) -> u64 {
+        self.0 = self.0.wrapping_mul(6_364_136_223_846_793_005).wrapping_add(1_442_695_040_888_963_407);
+        (self.0 >> 33) % limit
+    }
+}
+
+/// A store after sixty requests of any kind.
+fn drawn_store(draw: &mut Drawn) -> Areas {
+    let mut store = made(5, 12, 30, 30);
+    for _ in 0..60 {
+        let rows = rows(&store);
+        let (now, floor) = (u64::from(rows.head.now), u64::from(rows.head.floor));
+        let named: Vec<u64> = rows.counted_names().iter().map(|name| u64::from(name.moment)).collect();
+        let moment = match draw.below(4) {
+            0 if !named.is_empty() => named[draw.below(named.len() as u64) as usize],
+            _ => floor + draw.below(now - floor + 1),
+        };
+        let request = match draw.below(13) {
+            0..=3 => write(draw.below(5), b'x'),
+            4 => mark(),
+            5..=7 => revert(moment),
+            8 => reclaim(floor + draw.below(2)),
+            9 => reclaim(floor),
+            10 | 11 => name(moment, b'a' + draw.below(6) as u8),
+            _ => withdraw(b'a' + draw.below(6) as u8),
+        };
+        batch(&mut store, &request, &mut [0; 300]);
+    }
+    assert_eq!(check(&store), 0);
+    store
+}
+
 /// The two ways to say what a reclaim keeps are the same, on tables of any shape.
 #[test]
 fn kept_by_branch_is_kept_by_every_moment() {
-    let mut state = 1_u64;
-    let mut draw = |limit: u64| {
-        state = state.wrapping_mul(6_364_136_223_846_793_005).wrapping_add(1_442_695_040_888_963_407);
-        (state >> 33) % limit
-    };
+    let draw = &mut Drawn(1);
     for _ in 0..3_000 {
-        let mut store = made(5, 12, 30, 30);
-        for _ in 0..60 {
-            let rows = rows(&store);
-            let (now, floor) = (u64::from(rows.head.now), u64::from(rows.head.floor));
-            let named: Vec<u64> = rows.counted_names().iter().map(|name| u64::from(name.moment)).collect();
-            let moment = match draw(4) {
-                0 if !named.is_empty() => named[draw(named.len() as u64) as usize],
-                _ => floor + draw(now - floor + 1),
-            };
-            let request = match draw(13) {
-                0..=3 => write(draw(5), b'x'),
-                4 => mark(),
-                5..=7 => revert(moment),
-                8 => reclaim(floor + draw(2)),
-                9 => reclaim(floor),
-                10 | 11 => name(moment, b'a' + draw(6) as u8),
-                _ => withdraw(b'a' + draw(6) as u8),
-            };
-            batch(&mut store, &request, &mut [0; 300]);
-        }
-        assert_eq!(check(&store), 0);
-        let rows = rows(&store);
+        let rows = rows(&drawn_store(draw));
         for floor in rows.head.floor..=rows.head.now {
             assert_eq!(rows.kept_by_branch(floor), rows.kept_by_every_moment(floor));
         }
@@ -606,7 +616,7 @@ fn a_reclaim_keeps_branches_of_named_moments() {
     let mut other = store.clone();
     assert_eq!(answers(&mut other, &[reclaim(5)]), [(0, 2, None)]);
     assert_eq!(number_at(&other.head, 1), 2);
-    // With a name for moment 4 the whole way from there is kept.
+    // With a name for moment 4 its row is kept, and that of C, which is read there.
     assert_eq!(answers(&mut store, &[name(4, b'x'), reclaim(5)]), [(0, 4, None), (0, 1, None)]);
     assert_eq!(number_at(&store.head, 1), 4);
     assert_eq!(
@@ -666,4 +676,215 @@ fn names_in_the_table_check() {
     assert_eq!(check(&store), 2);
     set_number_at(&mut store.names, 2, 8);
     assert_eq!(check(&store), 3);
+}
+
+// ---------------------------------------------------------------------------------------------
+// Document 02, Four: weekly setting-back
+
+/// The counted branch rows: start, end and cut.
+fn branches_of(areas: &Areas) -> Vec<(u32, u32, u32)> {
+    rows(areas).counted_branches().iter().map(|row| (row.start, row.end, row.cut)).collect()
+}
+
+fn now_of(areas: &Areas) -> u64 {
+    u64::from(number_at(&areas.head, 3))
+}
+
+/// Weeks in which nothing is written: each seals a moment and sets back to it, in the branch of the week before.
+fn idle_weeks(areas: &mut Areas, weeks: usize) {
+    for _ in 0..weeks {
+        let now = now_of(areas);
+        let list = [mark(), revert(now)];
+        assert_eq!(answers(areas, &list), [(0, now as u32, None), (0, now as u32 + 1, None)]);
+    }
+}
+
+/// A reclaim to this moment, which frees so many records. Rows past the count stay as they are, vacated ones become zero; a
+/// second reclaim changes nothing.
+fn reclaims(areas: &mut Areas, moment: u64, freed: u32) {
+    let before = number_at(&areas.head, 1) as usize;
+    areas.branches[BRANCH_BYTES * before..].fill(0x55);
+    assert_eq!(answers(areas, &[reclaim(moment)]), [(0, freed, None)]);
+    let after = number_at(&areas.head, 1) as usize;
+    assert!(areas.branches[BRANCH_BYTES * after..BRANCH_BYTES * before].iter().all(|byte| *byte == 0));
+    assert!(areas.branches[BRANCH_BYTES * before..].iter().all(|byte| *byte == 0x55));
+    assert_eq!(check(areas), 0);
+    let once = areas.clone();
+    assert_eq!(answers(areas, &[reclaim(moment)]), [(0, 0, None)]);
+    assert_eq!(*areas, once);
+}
+
+#[test]
+fn idle_weeks_leave_the_first_row_and_the_open_one() {
+    let mut store = made(64, 8, 4, 4);
+    idle_weeks(&mut store, 3);
+    assert_eq!(branches_of(&store), [(0, 1, 0), (2, 3, 0), (4, 5, 2), (6, OPEN_END, 4)]);
+    // The cut of the open row is taken over twice: from 4 to 2, and to 0.
+    reclaims(&mut store, 6, 0);
+    assert_eq!(branches_of(&store), [(0, 1, 0), (6, OPEN_END, 0)]);
+    // So it goes on for ever; a table that nothing is reclaimed in is full after seven weeks.
+    for _ in 0..500 {
+        idle_weeks(&mut store, 6);
+        let now = now_of(&store);
+        reclaims(&mut store, now, 0);
+        assert_eq!(branches_of(&store), [(0, 1, 0), (now as u32, OPEN_END, 0)]);
+    }
+    idle_weeks(&mut store, 6);
+    let now = now_of(&store);
+    assert_eq!(answers(&mut store, &[mark(), revert(now)])[1], (7, 0, None));
+}
+
+#[test]
+fn a_row_with_a_kept_record_stays() {
+    let mut store = made(64, 16, 8, 8);
+    answers(&mut store, &[write(1, b'A')]);
+    idle_weeks(&mut store, 3);
+    answers(&mut store, &[write(2, b'B')]);
+    idle_weeks(&mut store, 3);
+    reclaims(&mut store, 12, 0);
+    // Its own cut is taken over twice, and that of the open row, which comes to lie in it: at its moment 6.
+    assert_eq!(branches_of(&store), [(0, 1, 0), (6, 7, 0), (12, OPEN_END, 6)]);
+    assert_eq!(answers(&mut store, &[read(1, 12), read(2, 12)]), [(0, 12, Some((b'A', 0))), (0, 12, Some((b'B', 6)))]);
+    // Written again, the old page is freed, and its row goes: the open row takes over what that had taken over.
+    idle_weeks(&mut store, 1);
+    answers(&mut store, &[write(2, b'C')]);
+    reclaims(&mut store, 14, 1);
+    assert_eq!(branches_of(&store), [(0, 1, 0), (14, OPEN_END, 0)]);
+    assert_eq!(answers(&mut store, &[read(1, 14), read(2, 14)]), [(0, 14, Some((b'A', 0))), (0, 14, Some((b'C', 14)))]);
+}
+
+#[test]
+fn a_row_with_a_named_moment_stays() {
+    let mut store = made(64, 16, 8, 8);
+    answers(&mut store, &[write(1, b'A')]);
+    idle_weeks(&mut store, 3);
+    // Nothing is written in the row from 6 to 7.
+    idle_weeks(&mut store, 3);
+    answers(&mut store, &[name(7, b'x'), write(1, b'B')]);
+    reclaims(&mut store, 12, 0);
+    assert_eq!(branches_of(&store), [(0, 1, 0), (6, 7, 0), (12, OPEN_END, 6)]);
+    assert_eq!(answers(&mut store, &[read(1, 7), read(1, 6)]), [(0, 7, Some((b'A', 0))), (8, 0, None)]);
+    // A revert below the floor, to the named moment. The row that it sealed ends at 12: it goes with a floor above that.
+    assert_eq!(answers(&mut store, &[revert(7), read(1, 13)]), [(0, 12, None), (0, 13, Some((b'A', 0)))]);
+    reclaims(&mut store, 12, 0);
+    assert_eq!(branches_of(&store), [(0, 1, 0), (6, 7, 0), (12, 12, 6), (13, OPEN_END, 7)]);
+    reclaims(&mut store, 13, 1);
+    assert_eq!(branches_of(&store), [(0, 1, 0), (6, 7, 0), (13, OPEN_END, 7)]);
+    // A withdrawal takes no row out; the next reclaim does, to any moment.
+    assert_eq!(answers(&mut store, &[withdraw(b'x')]), [(0, 7, None)]);
+    assert_eq!(branches_of(&store), [(0, 1, 0), (6, 7, 0), (13, OPEN_END, 7)]);
+    assert_eq!(answers(&mut store, &[read(1, 13), read(1, 7)]), [(0, 13, Some((b'A', 0))), (8, 0, None)]);
+    reclaims(&mut store, 13, 0);
+    assert_eq!(branches_of(&store), [(0, 1, 0), (13, OPEN_END, 0)]);
+    assert_eq!(answers(&mut store, &[read(1, 13)]), [(0, 13, Some((b'A', 0)))]);
+}
+
+#[test]
+fn a_row_that_ends_at_the_floor_stays() {
+    let mut store = made(64, 16, 8, 8);
+    idle_weeks(&mut store, 4);
+    // The row from 4 to 5, and the floor at its start, at its end, and behind it.
+    for floor in [4, 5] {
+        reclaims(&mut store, floor, 0);
+        assert_eq!(branches_of(&store), [(0, 1, 0), (4, 5, 0), (6, 7, 4), (8, OPEN_END, 6)]);
+    }
+    reclaims(&mut store, 6, 0);
+    assert_eq!(branches_of(&store), [(0, 1, 0), (6, 7, 0), (8, OPEN_END, 6)]);
+    // With the floor at 8 the first row stays though it ends before, and so it does where it is all that ends before.
+    reclaims(&mut store, 8, 0);
+    assert_eq!(branches_of(&store), [(0, 1, 0), (8, OPEN_END, 0)]);
+    assert_eq!(answers(&mut store, &[mark(), mark()]).len(), 2);
+    reclaims(&mut store, 10, 0);
+    assert_eq!(branches_of(&store), [(0, 1, 0), (8, OPEN_END, 0)]);
+}
+
+#[test]
+fn a_cut_into_a_row_that_stays_is_left() {
+    // The row from 2 to 5 is cut at 0, and the next one in it, at 3, before its page.
+    let mut store = made(64, 16, 8, 8);
+    answers(&mut store, &[mark(), revert(0), mark(), mark(), write(1, b'A'), mark(), revert(3)]);
+    assert_eq!(branches_of(&store), [(0, 1, 0), (2, 5, 0), (6, OPEN_END, 3)]);
+    answers(&mut store, &[name(4, b'x'), mark()]);
+    reclaims(&mut store, 7, 0);
+    // No record at or below the cut is kept there.
+    assert_eq!(branches_of(&store), [(0, 1, 0), (2, 5, 0), (6, OPEN_END, 3)]);
+    answers(&mut store, &[withdraw(b'x')]);
+    reclaims(&mut store, 7, 1);
+    assert_eq!(branches_of(&store), [(0, 1, 0), (6, OPEN_END, 0)]);
+}
+
+#[test]
+fn children_of_one_row_take_over_its_cut() {
+    // The row from 3 to 5 is cut at 1, and has three children: cut at its start, inside, and at its end.
+    let mut store = made(64, 16, 8, 8);
+    let list = [mark(), mark(), revert(1), mark(), mark(), revert(3), revert(4), revert(5), mark()];
+    assert!(answers(&mut store, &list).iter().all(|answer| answer.0 == 0));
+    let children = [(6, 6, 3), (7, 7, 4), (8, OPEN_END, 5)];
+    assert_eq!(branches_of(&store), [vec![(0, 2, 0), (3, 5, 1)], children.to_vec()].concat());
+    reclaims(&mut store, 6, 0);
+    assert_eq!(branches_of(&store), [(0, 2, 0), (6, 6, 1), (7, 7, 1), (8, OPEN_END, 1)]);
+}
+
+#[test]
+fn rows_of_p7_and_p9() {
+    let mut store = made(64, 16, 128, 128);
+    let list = [write(5, b'A'), mark(), write(5, b'B'), mark(), write(5, b'C'), revert(0), write(5, b'D'), revert(2)];
+    answers(&mut store, &list);
+    reclaims(&mut store, 3, 2);
+    assert_eq!(branches_of(&store), [(0, 2, 0), (3, 3, 0), (4, OPEN_END, 2)]);
+    reclaims(&mut store, 4, 1);
+    assert_eq!(branches_of(&store), [(0, 2, 0), (4, OPEN_END, 2)]);
+}
+
+/// Does the row stay, by the sentence of the document?
+fn stays(row: &Branch, floor: u32, named: &[u32], kept: &[Record]) -> bool {
+    let holds = |moment: u32| row.start <= moment && moment <= row.end;
+    row.start == 0
+        || row.end >= floor
+        || named.iter().any(|moment| holds(*moment))
+        || kept.iter().any(|record| holds(record.moment))
+}
+
+/// On tables of any shape: what stays, its starts and ends; the order in which rows go; the pictures of readable moments.
+#[test]
+fn rows_go_in_any_order() {
+    let draw = &mut Drawn(2);
+    let (mut gone, mut taken_over) = (0, 0);
+    for _ in 0..3_000 {
+        let store = drawn_store(draw);
+        let before = rows(&store);
+        let floor = before.head.floor + draw.below(u64::from(before.head.now - before.head.floor + 1)) as u32;
+        let mut after = store.clone();
+        answers(&mut after, &[reclaim(u64::from(floor))]);
+        let after = rows(&after);
+        let named: Vec<u32> = before.counted_names().iter().map(|name| name.moment).collect();
+        let stay = |row: &&Branch| stays(row, floor, &named, after.counted_records());
+        let ends = |row: &Branch| (row.start, row.end);
+        let due: Vec<(u32, u32)> = before.counted_branches().iter().filter(stay).map(ends).collect();
+        assert_eq!(after.counted_branches().iter().map(ends).collect::<Vec<_>>(), due);
+
+        let leaving = before.counted_branches().iter().filter(|row| !stay(row));
+        let mut going: Vec<u32> = leaving.map(|row| row.start).collect();
+        for _ in 0..3 {
+            let mut other = before.clone();
+            for index in (1..going.len()).rev() {
+                going.swap(index, draw.below(index as u64 + 1) as usize);
+            }
+            for start in &going {
+                other.take_out(other.branch_holding(*start).expect("a row that is counted"));
+            }
+            assert_eq!(other.branches, after.branches);
+        }
+        let same = |row: &&Branch| before.counted_branches().contains(row);
+        gone += going.len();
+        taken_over += after.counted_branches().iter().filter(|row| !same(row)).count();
+
+        for moment in (floor..=before.head.now).chain(named) {
+            for address in 0..5 {
+                let found = |store: &Store| store.find(address, moment).map(|row| store.records[row].moment);
+                assert_eq!(found(&before), found(&after));
+            }
+        }
+    }
+    assert!(gone > 3_000 && taken_over > 1_000, "{gone} rows gone, {taken_over} cuts taken over");
 }

@@ -88,7 +88,7 @@ row-near-requires : tie.Need-row-near-requires Inv-loop μ-loop
 row-near-requires c κs =
     let l = c .before .before .before .before in
     let s = start l in
-    ((s .pre .0 .0, l .loop .inv .4), (s .pre .1 .0, rw (when-is (now (s .args .keys)) (l .loop .k - 1)) (s .pre .1 .1 .0 .inside (l .loop .k - 1) (omega (arith, l .loop .inv .0, c .before .before .before .loop-test .taken)))))
+    ((s .pre .0 .0, l .loop .inv .4), (s .pre .1 .0 .stairs, rw (when-is (now (s .args .keys)) (l .loop .k - 1)) (s .pre .1 .1 .0 .inside (l .loop .k - 1) (omega (arith, l .loop .inv .0, c .before .before .before .loop-test .taken)))))
 
 mul-first : tie.Need-mul-first Inv-loop μ-loop
 mul-first c = search needs

@@ -13,8 +13,8 @@ abbrev μ-loop : tie.MeasureT-loop
 loop-holds : tie.Need-loop-holds Inv-loop μ-loop
 loop-holds c = tt
 
-see-requires : tie.Need-see-requires Inv-loop μ-loop
-see-requires c κs = tt
+see-pages-requires : tie.Need-see-pages-requires Inv-loop μ-loop
+see-pages-requires c κs = tt
 
 add-i : tie.Need-add-i Inv-loop μ-loop
 add-i c = omega arith
@@ -35,7 +35,7 @@ see-all-spec =
     Inv-loop
     μ-loop
     loop-holds
-    see-requires
+    see-pages-requires
     add-i
     loop-less
     loop-again

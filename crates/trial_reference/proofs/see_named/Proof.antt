@@ -19,8 +19,8 @@ moment-of-requires c κs = tt
 index-requires : tie.Need-index-requires Inv-loop μ-loop
 index-requires c κs = tt
 
-see-requires : tie.Need-see-requires Inv-loop μ-loop
-see-requires c κs = tt
+see-pages-requires : tie.Need-see-pages-requires Inv-loop μ-loop
+see-pages-requires c κs = tt
 
 add-k : tie.Need-add-k Inv-loop μ-loop
 add-k c = omega arith
@@ -43,7 +43,7 @@ see-named-spec =
     loop-holds
     moment-of-requires
     index-requires
-    see-requires
+    see-pages-requires
     add-k
     loop-less
     loop-again

@@ -8,7 +8,7 @@ abbrev Inv-loop : tie.InvT-loop
 Inv-loop w₀ k₀ w k = Unit {0}
 
 abbrev μ-loop : tie.MeasureT-loop
-μ-loop w₀ k₀ w k = 30 - k
+μ-loop w₀ k₀ w k = 31 - k
 
 loop-holds : tie.Need-loop-holds Inv-loop μ-loop
 loop-holds c = tt
