@@ -67,36 +67,21 @@ static void make(struct areas *s)
         fail("a fresh store was refused");
 }
 
-static uint8_t *put_request(uint8_t *p, unsigned operation, uint32_t address, uint32_t moment)
-{
-    uint64_t n = (uint64_t)operation << 53 | (uint64_t)address << 37 | (uint64_t)moment << 5;
-    for (int i = 0; i < 7; i++)
-        *p++ = (uint8_t)(n >> (48 - 8 * i));
-    return p;
-}
-
-static uint8_t *put_write(uint8_t *p, uint32_t address, uint8_t byte)
-{
-    p = put_request(p, WRITE, address, 0);
-    memset(p, byte, PAGE);
-    return p + PAGE;
-}
-
 /* A batch on a contender's store; 7 if its last request was refused with that. */
-static unsigned send(int c, size_t batch_len, size_t requests, double *took)
+static unsigned send(int c, const struct kizmoolet_requests *requests, size_t count, double *took)
 {
     struct areas *s = &all[c].store;
     uint64_t answered, taken, sent;
     double began = seconds();
     uint32_t stop = batches[c](s->head, sizeof s->head, s->branches, s->branches_len, s->records, s->records_len, s->places,
-        s->places_len, s->names, sizeof s->names, s->slab, s->slab_len, batch, batch_len, all[c].answers, sizeof all[c].answers,
+        s->places_len, s->names, sizeof s->names, s->slab, s->slab_len, batch, requests->length, all[c].answers, sizeof all[c].answers,
         &answered, &taken, &sent);
     *took += seconds() - began;
-    if (stop != 0 || answered != requests)
+    if (requests->failed || stop != 0 || answered != count)
         fail("a batch was not carried out to its end");
-    for (size_t i = 0; i < requests; i++) {
+    for (size_t i = 0; i < count; i++) {
         unsigned refusal = all[c].answers[i * KIZMOOLET_ANSWER_BYTES] >> 2;
-        if (refusal != 0 && !(refusal == 7 && i + 1 == requests))
+        if (refusal != 0 && !(refusal == 7 && i + 1 == count))
             fail("a request was refused");
         if (refusal == 7)
             return 7;
@@ -118,17 +103,20 @@ static void compare(int c, int tables)
         fail("two contenders leave different stores");
 }
 
-/* Now before the week: two moments a week. */
+/* A week has two moments: it begins at 2 w. */
 static void week(uint32_t w)
 {
-    uint32_t now = 2 * w;
-    uint8_t *p = put_write(batch, w % PAGES, (uint8_t)w);
-    p = put_request(p, MARK, 0, 0);
-    p = put_write(p, (w + 7) % PAGES, 0xEE);
-    p = put_request(p, REVERT, 0, now);
+    struct kizmoolet_requests requests = kizmoolet_requests_in(batch, sizeof batch);
+    uint8_t page[PAGE];
+    memset(page, (int)(w % 256), sizeof page);
+    kizmoolet_add_write(&requests, w % PAGES, page);
+    kizmoolet_add_mark(&requests);
+    memset(page, 0xEE, sizeof page);
+    kizmoolet_add_write(&requests, (w + 7) % PAGES, page);
+    kizmoolet_add_revert(&requests, 2 * w);
     for (int c = 0; c < CONTENDERS; c++)
         if (!all[c].full) {
-            if (send(c, (size_t)(p - batch), 4, &all[c].week_seconds) == 7)
+            if (send(c, &requests, 4, &all[c].week_seconds) == 7)
                 all[c].full = w + 1;
             uint32_t rows = head_branches(&all[c].store);
             all[c].most = rows > all[c].most ? rows : all[c].most;
@@ -139,10 +127,11 @@ static void week(uint32_t w)
 static void month(uint32_t w)
 {
     uint32_t now = 2 * (w + 1), year = 2 * WEEKS;
-    uint8_t *p = put_request(batch, RECLAIM, 0, now > year ? now - year : 0);
+    struct kizmoolet_requests requests = kizmoolet_requests_in(batch, sizeof batch);
+    kizmoolet_add_reclaim(&requests, now > year ? now - year : 0);
     for (int c = 0; c < CONTENDERS; c++)
         if (!all[c].full) {
-            send(c, (size_t)(p - batch), 1, &all[c].reclaim_seconds);
+            send(c, &requests, 1, &all[c].reclaim_seconds);
             compare(c, 1);
         }
 }
