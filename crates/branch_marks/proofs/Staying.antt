@@ -16,7 +16,7 @@ use Rattle.model.specs.Store.{zero-record, zero-name, moments, keep, any, _∈_
 use Rattle.model.specs.Lookup.{holds}
 use Rattle.model.specs.Step.{stays}
 use Rattle.model.specs.ByNumber.{branch, entry, nameRow, Stairs}
-use Rattle.model.proofs.Base.{case, →or₂, keep-append, mem-map, getD-mem}
+use Rattle.model.proofs.Base.{case, →or₂, any-append, keep-append, mem-map, getD-mem}
 use Rattle.model.proofs.Ancestry.{holds→, →holds}
 use Rattle.closing.specs.Closed.{marked, keepBy}
 use Rattle.closing.proofs.Closing.{kept-more, kept-less}
@@ -30,8 +30,7 @@ or-no false = refl
 
 any-snoc : (p : ℕ → Bool) (ts : List ℕ) (t : ℕ) → any p (ts ++ (t ∷ [])) ≡ (any p ts || p t)
 unfolding any
-any-snoc p [] t = case (p t) (λ e. rw e) (λ e. rw e)
-any-snoc p (u ∷ ts) t = case (p u) (λ e. rw e) (λ e. rw e (any-snoc p ts t))
+any-snoc p ts t = any-append p ts (t ∷ []) ∙ ap (λ (b : Bool). any p ts || b) (case (p t) (λ e. rw e) (λ e. rw e))
 
 -- whether a row stays by its start and end
 module _ (floor : ℕ) (b : Branch) where
