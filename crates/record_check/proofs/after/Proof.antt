@@ -1,8 +1,8 @@
 use native.Mathlib.Omega.{arith}
-use Rattle.soundness.proofs.Records.{after-address, after-other, after-moment, after-not}
+use Rattle.record_check.proofs.Records.{after-address, after-other, after-moment, after-not}
 use borrow.Author.Needs.{needs}
-use Rattle.soundness.proofs.after.Statement.{statement}
-use Rattle.soundness.proofs.after.Tie as tie
+use Rattle.record_check.proofs.after.Statement.{statement}
+use Rattle.record_check.proofs.after.Tie as tie
 
 sub-record-at : tie.Need-sub-record-at
 sub-record-at c = search needs

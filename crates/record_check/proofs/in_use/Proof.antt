@@ -6,9 +6,9 @@ use borrow.Author.Needs.{needs}
 use denote.Ref.{now}
 use lib.ListN.{length, take}
 use Rattle.model.specs.Soundness.{used}
-use Rattle.soundness.proofs.Used.{used-none, used-more, used-free, used-all}
-use Rattle.soundness.proofs.in_use.Statement.{statement}
-use Rattle.soundness.proofs.in_use.Tie as tie
+use Rattle.record_check.proofs.Used.{used-none, used-more, used-free, used-all}
+use Rattle.record_check.proofs.in_use.Statement.{statement}
+use Rattle.record_check.proofs.in_use.Tie as tie
 
 abbrev Inv-loop : tie.InvT-loop
 Inv-loop pt n₀ i₀ n i = (i ≤ length pt) × (n ≤ i) × (n ≡ used (take i pt))
