@@ -60,14 +60,16 @@ static struct areas of_library, of_plain, left_by_library;
 
 static size_t run_batch(batch_function *f, struct areas *s, const uint8_t *batch, size_t batch_len, uint8_t *answers, size_t answers_len)
 {
-    uint64_t answered, taken, sent;
+    uint64_t answered, taken, sent, rows, records = head_records(s);
     uint32_t stop = f(s->head, sizeof s->head, s->branches, s->branches_len, s->records, s->records_len, s->places,
         s->places_len, s->names, sizeof s->names, s->slab, s->slab_len, batch, batch_len, answers, answers_len, &answered, &taken,
-        &sent);
+        &sent, &rows);
     if (stop != 0 || taken != batch_len) {
         fprintf(stderr, "bench: stop %u after %llu requests\n", (unsigned)stop, (unsigned long long)answered);
         exit(1);
     }
+    if (rows != records)
+        fail("the table checks did not read all record rows");
     return (size_t)sent;
 }
 

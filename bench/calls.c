@@ -163,7 +163,7 @@ static uint8_t *wrong_number(struct store *s, enum call call)
 }
 
 static uint8_t answers[MANY * KIZMOOLET_PAGE_ANSWER_BYTES];
-static uint64_t answer_bytes;
+static uint64_t answer_bytes, rows_read;
 static uint8_t cleared[KIZMOOLET_MOST_BRANCHES * KIZMOOLET_BRANCH_BYTES + KIZMOOLET_MOST_RECORDS * KIZMOOLET_RECORD_BYTES
     + KIZMOOLET_MOST_PLACES * KIZMOOLET_PLACE_BYTES];
 
@@ -188,7 +188,7 @@ static uint32_t one_call(struct store *s, const struct library *with, enum call 
     default:
         return with->batch(s->head, head_len, s->branches, s->branches_len, s->records, s->records_len, s->places,
             s->places_len, s->names, KIZMOOLET_NAMES_BYTES, s->slab, s->slab_len, batch, batch_len, answers, sizeof answers,
-            &answered, &request_bytes, &answer_bytes);
+            &answered, &request_bytes, &answer_bytes, &rows_read);
     }
 }
 
@@ -200,6 +200,16 @@ static int found_first(const struct store *s, size_t library)
     if (library > 0)
         return answers[0] == 2 && answer_bytes >= KIZMOOLET_ANSWER_BYTES + KIZMOOLET_PAGE_BYTES;
     return kizmoolet_next_answer(&from, &answer) == 1 && answer.page && answer.date == kizmoolet_number_at(s->records + 4);
+}
+
+/* Whether the present library has read as many record rows as are due: none with 1 and 2, else up to the wrong one, or all. */
+static int rows_due(const struct store *s, size_t library, enum call call)
+{
+    if (library > 0 || call == COPY || call == CLEAR || call == FRESH || call == FRESH_SIZE)
+        return 1;
+    if (due[call] == 1 || due[call] == 2)
+        return rows_read == 0;
+    return rows_read == (call == FIRST_RECORD ? 1 : kizmoolet_number_at(s->head + KIZMOOLET_HEAD_RECORDS_AT));
 }
 
 static double seconds(void)
@@ -255,6 +265,8 @@ static void time_call(struct store *s, size_t library, enum call call, int repet
     }
     if (reads_of(call) > 0 && !found_first(s, library))
         fail("the read finds no page, or not with its date");
+    if (!rows_due(s, library, call))
+        fail("the count of record rows read is wrong");
     if (before) {
         memcpy(s->head, before, sizeof s->head);
         memcpy(s->branches, before + sizeof s->head, tables);

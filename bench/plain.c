@@ -1,6 +1,7 @@
-/* (c) The same job in plain C, not verified: the same byte tables, the same checks and refusals, the same algorithms; it too
-   remembers within a batch below which place none is free. It works on the bytes in place, and renames the places of the rows
-   that moved one by one, where the library passes over the place table. */
+/* (c) The same job in plain C, not verified: the same byte tables, the same checks, refusals and counts; it too remembers within a
+   batch below which place none is free. It works on the bytes in place, and renames the places of the rows that moved one by one,
+   where the library passes over the place table. Below the last gap between the branch rows, where the library searches the rows for a
+   moment, it searches among the stretches that the gaps leave, with an index by ranges of moments. */
 #include <string.h>
 #include "store.h"
 
@@ -20,20 +21,6 @@ static void set_branch(struct areas *s, size_t i, struct branch b)
     put32(p + 8, b.cut);
 }
 
-/* Whether one of the first n branches holds the moment. */
-static int held(const struct areas *s, size_t n, uint32_t moment)
-{
-    size_t lo = 0, hi = n;
-    while (lo < hi) {
-        size_t mid = lo + (hi - lo) / 2;
-        if (get32(s->branches + 12 * mid + 4) < moment)
-            lo = mid + 1;
-        else
-            hi = mid;
-    }
-    return lo < n && get32(s->branches + 12 * lo) <= moment;
-}
-
 /* Which counted row has this name; the count where none has. */
 static size_t row_called(const struct areas *s, struct name x)
 {
@@ -43,61 +30,145 @@ static size_t row_called(const struct areas *s, struct name x)
     return i;
 }
 
+/* ---- the table checks */
+
+/* Branch rows that follow one another without a gap are one stretch of moments. `first[k]` is the last stretch that starts at the
+   moment k << shift or before. */
+struct stretches {
+    size_t n;
+    uint32_t start[4096], end[4096];
+    unsigned shift;
+    uint16_t first[2 * 4096 + 2];
+};
+
+/* The last of the stretches lo to hi that starts at the moment or before, where lo does; as many turns for every moment. */
+static size_t last_from(const struct stretches *t, size_t lo, size_t hi, uint32_t moment)
+{
+    const uint32_t *at = t->start + lo;
+    for (size_t n = hi - lo + 1; n > 1;) {
+        size_t half = n / 2;
+        at += at[half] <= moment ? half : 0;
+        n -= half;
+    }
+    return (size_t)(at - t->start);
+}
+
+/* Whether a stretch holds the moment. From the start of the last one on there is no gap: most moments need no search. */
+static int held(const struct stretches *t, uint32_t moment)
+{
+    size_t last = t->n - 1;
+    return moment <= t->end[moment >= t->start[last] ? last : last_from(t, 0, last, moment)];
+}
+
+/* So that a search begins with a stretch or two in place of all. */
+static void number_ranges(struct stretches *t)
+{
+    uint32_t last = t->start[t->n - 1];
+    t->shift = 0;
+    while (last >> t->shift >= 2 * t->n)
+        t->shift++;
+    for (size_t k = 0, i = 0; k <= (last >> t->shift) + 1; k++) {
+        while (i + 1 < t->n && t->start[i + 1] <= (uint64_t)k << t->shift)
+            i++;
+        t->first[k] = (uint16_t)i;
+    }
+}
+
+static int held_by_range(const struct stretches *t, uint32_t moment)
+{
+    size_t last = t->n - 1, k = moment >> t->shift;
+    return moment >= t->start[last] || moment <= t->end[last_from(t, t->first[k], t->first[k + 1], moment)];
+}
+
+/* Check 1. */
+static int in_range(const struct areas *s)
+{
+    size_t b = s->branches_len / 12, r = s->records_len / 12, p = s->places_len / 4;
+    if (s->branches_len % 12 || s->records_len % 12 || s->places_len % 4)
+        return 0;
+    if (b < 1 || b > 4096 || r < 1 || r > 65536 || p < 1 || p > 65536 || s->slab_len != PAGE * p)
+        return 0;
+    return head_size(s) >= 1 && head_size(s) <= 65536 && head_branches(s) >= 1 && head_branches(s) <= b && head_records(s) <= r
+        && head_floor(s) <= head_now(s) && head_names(s) <= KIZMOOLET_MOST_NAMES;
+}
+
+/* The branches of check 2, and their stretches. */
+static int branches_sound(const struct areas *s, struct stretches *t)
+{
+    struct branch x = branch_at(s, 0);
+    uint32_t floor = head_floor(s), n = head_branches(s), end = x.end;
+    if (x.start != 0 || x.cut != 0)
+        return 0;
+    t->n = 1;
+    t->start[0] = 0;
+    t->end[0] = end;
+    for (size_t i = 1; i < n; i++) {
+        x = branch_at(s, i);
+        if (x.end < x.start || x.start <= end || !held(t, x.cut))
+            return 0;
+        if (x.start != end + 1) {
+            if (x.start > floor)
+                return 0;
+            t->start[t->n++] = x.start;
+        }
+        t->end[t->n - 1] = end = x.end;
+    }
+    return end == OPEN_END && x.start <= head_now(s);
+}
+
 /* The names of check 2. */
-static int names_sound(const struct areas *s)
+static int names_sound(const struct areas *s, const struct stretches *t)
 {
     for (size_t i = 0; i < head_names(s); i++) {
         struct name x = name_at(s, i);
-        if (row_called(s, x) != i || x.moment >= head_now(s) || !held(s, head_branches(s), x.moment))
+        if (row_called(s, x) != i || x.moment >= head_now(s) || !held(t, x.moment))
             return 0;
     }
     return 1;
 }
 
-static unsigned check(const struct areas *s)
+/* How many counted record rows stand before the first that breaks a rule, by itself or against the row before it. */
+static size_t rows_kept(const struct areas *s, const struct stretches *t)
 {
-    size_t b = s->branches_len / 12, r = s->records_len / 12, p = s->places_len / 4;
-    if (s->branches_len % 12 || s->records_len % 12 || s->places_len % 4)
-        return 1;
-    if (b < 1 || b > 4096 || r < 1 || r > 65536 || p < 1 || p > 65536 || s->slab_len != PAGE * p)
-        return 1;
-    uint32_t size = head_size(s), nb = head_branches(s), nr = head_records(s), now = head_now(s), floor = head_floor(s);
-    if (size < 1 || size > 65536 || nb < 1 || nb > b || nr > r || floor > now
-        || head_names(s) > KIZMOOLET_MOST_NAMES)
-        return 1;
-
-    struct branch before = branch_at(s, 0);
-    if (before.start != 0 || before.cut != 0 || before.end < before.start)
-        return 2;
-    for (size_t i = 1; i < nb; i++) {
-        struct branch x = branch_at(s, i);
-        if (x.end < x.start || x.start <= before.end)
-            return 2;
-        if (x.start != before.end + 1 && x.start > floor)
-            return 2;
-        if (!held(s, i, x.cut))
-            return 2;
-        before = x;
-    }
-    if (before.end != OPEN_END || before.start > now || !names_sound(s))
-        return 2;
-
-    struct record last = {0, 0, 0};
-    for (size_t i = 0; i < nr; i++) {
+    uint32_t size = head_size(s), n = head_records(s), now = head_now(s);
+    size_t places = s->places_len / 4, i = 0;
+    uint64_t least = 0; /* of an address and a moment, as one number */
+    for (; i < n; i++) {
         struct record x = record_at(s, i);
-        if (i > 0 && (x.address < last.address || (x.address == last.address && x.moment <= last.moment)))
-            return 3;
-        if (x.address >= size || x.moment > now || x.place >= p || get32(s->places + 4 * x.place) != i + 1)
-            return 3;
-        if (!held(s, nb, x.moment))
-            return 3;
-        last = x;
+        uint64_t key = (uint64_t)x.address << 32 | x.moment;
+        if (key < least || x.address >= size || x.moment > now || x.place >= places)
+            break;
+        if (get32(s->places + 4 * (size_t)x.place) != i + 1 || !held_by_range(t, x.moment))
+            break;
+        least = key + 1;
     }
-    size_t used = 0;
-    for (size_t i = 0; i < p; i++)
-        used += get32(s->places + 4 * i) != 0;
-    return used == nr ? 0 : 3;
+    return i;
 }
+
+static size_t places_in_use(const struct areas *s)
+{
+    size_t used = 0;
+    for (size_t i = 0; i < s->places_len; i += 4)
+        used += get32(s->places + i) != 0;
+    return used;
+}
+
+/* The refusal of the table checks, 0 where there is none, and how many record rows they read. */
+static unsigned check(const struct areas *s, uint64_t *rows)
+{
+    struct stretches t;
+    *rows = 0;
+    if (!in_range(s))
+        return 1;
+    if (!branches_sound(s, &t) || !names_sound(s, &t))
+        return 2;
+    number_ranges(&t);
+    size_t kept = rows_kept(s, &t), n = head_records(s);
+    *rows = kept < n ? kept + 1 : n;
+    return kept == n && places_in_use(s) == n ? 0 : 3;
+}
+
+/* ---- the requests */
 
 /* How many records stand up to (address, moment), itself included. */
 static size_t up_to(const struct areas *s, uint32_t address, uint32_t moment)
@@ -291,15 +362,15 @@ static unsigned unreadable(const uint8_t *p, size_t left, struct request *q)
 
 uint32_t plain_batch(uint8_t *head, size_t head_len, uint8_t *branches, size_t branches_len, uint8_t *records, size_t records_len,
     uint8_t *places, size_t places_len, uint8_t *names, size_t names_len, uint8_t *slab, size_t slab_len, const uint8_t *batch,
-    size_t batch_len, uint8_t *answers, size_t answers_len, uint64_t *answered, uint64_t *taken, uint64_t *sent)
+    size_t batch_len, uint8_t *answers, size_t answers_len, uint64_t *answered, uint64_t *taken, uint64_t *sent, uint64_t *rows)
 {
     struct areas s = {{0}, {0}, branches, records, places, slab, branches_len, records_len, places_len, slab_len};
-    *answered = *taken = *sent = 0;
+    *answered = *taken = *sent = *rows = 0;
     if (head_len != sizeof s.head || names_len != sizeof s.names)
         return 1;
     memcpy(s.head, head, sizeof s.head);
     memcpy(s.names, names, sizeof s.names);
-    unsigned stop = check(&s);
+    unsigned stop = check(&s, rows);
     if (stop)
         return stop;
     size_t at = 0, out = 0, from = 0; /* no place below `from` is free */

@@ -118,7 +118,7 @@ extern const struct contender library, plain, paper, paper_short, sqlite;
 /* The plain implementation under the signature of kizmoolet_batch. */
 uint32_t plain_batch(uint8_t *head, size_t head_len, uint8_t *branches, size_t branches_len, uint8_t *records, size_t records_len,
     uint8_t *places, size_t places_len, uint8_t *names, size_t names_len, uint8_t *slab, size_t slab_len, const uint8_t *batch,
-    size_t batch_len, uint8_t *answers, size_t answers_len, uint64_t *answered, uint64_t *taken, uint64_t *sent);
+    size_t batch_len, uint8_t *answers, size_t answers_len, uint64_t *answered, uint64_t *taken, uint64_t *sent, uint64_t *rows);
 
 /* Which records and branches a reclaim keeps; shared by the three that the library is compared with. */
 struct marking {

@@ -21,6 +21,7 @@ static uint8_t batch[BATCH_BYTES];
 static uint8_t answers[ANSWERS_BYTES], answers_left[ANSWERS_BYTES];
 static size_t batch_len;
 static uint64_t answered, answer_bytes, answered_left, answer_bytes_left;
+static uint32_t stop_due; /* 0, or the number of the table check that is to refuse the batch */
 
 static void copy_tables(struct areas *to, const struct areas *from)
 {
@@ -68,7 +69,7 @@ static double seconds(void)
 /* One batch on the store as it was found. */
 static double time_batch(batch_function *f)
 {
-    uint64_t taken;
+    uint64_t taken, rows;
 #ifndef SLAB_STAYS
     memcpy(used.slab, found.slab, found.slab_len);
 #endif
@@ -77,10 +78,12 @@ static double time_batch(batch_function *f)
     double began = seconds();
     uint32_t stop = f(used.head, sizeof used.head, used.branches, used.branches_len, used.records, used.records_len, used.places,
         used.places_len, used.names, sizeof used.names, used.slab, used.slab_len, batch, batch_len, answers, sizeof answers,
-        &answered, &taken, &answer_bytes);
+        &answered, &taken, &answer_bytes, &rows);
     double took = seconds() - began;
-    if (stop != 0 || taken != batch_len)
-        fail("a batch was not carried out to its end");
+    if (stop != stop_due || taken != (stop ? 0 : batch_len))
+        fail("a batch does not end as is due");
+    if (rows != (stop == 1 ? 0 : head_records(&found)))
+        fail("the table checks did not read as many record rows as are due");
     return took;
 }
 

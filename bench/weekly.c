@@ -71,14 +71,14 @@ static void make(struct areas *s)
 static unsigned send(int c, const struct kizmoolet_requests *requests, size_t count, double *took)
 {
     struct areas *s = &all[c].store;
-    uint64_t answered, taken, sent;
+    uint64_t answered, taken, sent, rows, records = head_records(s);
     double began = seconds();
     uint32_t stop = batches[c](s->head, sizeof s->head, s->branches, s->branches_len, s->records, s->records_len, s->places,
         s->places_len, s->names, sizeof s->names, s->slab, s->slab_len, batch, requests->length, all[c].answers, sizeof all[c].answers,
-        &answered, &taken, &sent);
+        &answered, &taken, &sent, &rows);
     *took += seconds() - began;
-    if (requests->failed || stop != 0 || answered != count)
-        fail("a batch was not carried out to its end");
+    if (requests->failed || stop != 0 || answered != count || rows != records)
+        fail("a batch was not carried out to its end, or not all record rows were read");
     for (size_t i = 0; i < count; i++) {
         unsigned refusal = all[c].answers[i * KIZMOOLET_ANSWER_BYTES] >> 2;
         if (refusal != 0 && !(refusal == 7 && i + 1 == count))

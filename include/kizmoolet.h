@@ -12,8 +12,8 @@
  * THE CALLER'S DUTIES
  *
  * 1. Each pointer and the length behind it name an area of that many bytes that may be read; areas passed without const, and
- *    the three counts, may also be written. A null pointer only with length 0, and never for a count.
- * 2. No two areas overlap, no area overlaps a count, and no two counts stand at one address.
+ *    the four counts, may also be written. A null pointer only with length 0, and never for a count.
+ * 2. No two areas overlap, no area overlaps a count, and no two counts overlap.
  * 3. Nobody else writes to the areas during a call, or reads those that it may change. Calls on different stores may run at
  *    the same time.
  * 4. KIZMOOLET_STACK_BYTES of stack are free: the tables' numbers stand there during the call. The usual 8 MB of a main
@@ -22,8 +22,8 @@
  *    six areas, with the same lengths, to the next. A copy of the six areas is a copy of the store; of the slab it needs the
  *    pages in use alone (below, PAGES PACKED TOWARDS THE FRONT).
  *
- * No other duty: wrong lengths and unsound contents are refused (1, 2, 3). A call that is refused so writes to no area; the three
- * counts of kizmoolet_batch are written, with zeros.
+ * No other duty: wrong lengths and unsound contents are refused (1, 2, 3). A call that is refused so writes to no area; the four
+ * counts of kizmoolet_batch are written, three of them with zeros, the fourth as is said below (HOW FAR THE TABLE CHECK CAME).
  *
  *
  * WHAT IT NEEDS
@@ -33,12 +33,14 @@
  *
  * WHAT A CALL COSTS
  *
- * Each call of kizmoolet_batch decodes head and tables, all rows lent, and checks the rows counted and all place rows, before it
- * looks at the first request; unless it is refused, it encodes all rows lent again after the last. An empty batch costs this
- * too, and a host that sends its requests together pays it once. Of the slab only those pages are touched that a request writes
- * or finds. Measured for an empty batch, over all runs on one machine (docs/BENCHMARKS.md, "A call by itself"): on the largest
- * tables with all rows in use 6.3 to 8.4 ms, 53 to 113 times as long as a memcpy of the tables; on a fresh store of that size
- * 0.23 to 0.41 ms, 3.6 to 6.1 times; on small tables 25 to 33 us, about what it takes to clear the 1.1 MB of stack.
+ * Each call of kizmoolet_batch decodes head and tables, all rows lent, and checks them before it looks at the first request;
+ * unless it is refused, it encodes all rows lent again after the last. The check goes through the counted record rows once, for
+ * order and places together, as far as the first row that breaks a rule, and counts the place rows in use. An empty batch costs
+ * this too, and a host that sends its requests together pays it once. Of the slab only those pages are touched that a request
+ * writes or finds. Measured for an empty batch, over all runs on one machine (docs/BENCHMARKS.md, "A call by itself" and "The
+ * table check"): on the largest tables with all rows in use 0.28 to 0.69 ms, and up to 2.8 ms where as many moments as can be are
+ * missing between the branches below the floor; on a fresh store of that size 0.20 to 0.24 ms; on small tables 14 to 16 us, about
+ * what it takes to clear the 1.1 MB of stack.
  *
  *
  * THE SIX AREAS OF A STORE
@@ -57,6 +59,18 @@
  *
  * The rows lent are the length of a table; the head's counts say how many of them are in use. A record is needed for each
  * page written at each moment, and a branch for each revert, until a reclaim frees them.
+ *
+ *
+ * HOW FAR THE TABLE CHECK CAME
+ *
+ * The fourth count of kizmoolet_batch, rows_read, says how many record rows the table check read, from the first on:
+ *
+ *   with 1 and 2    0: the record rows were not looked at;
+ *   with 3          n: record row n - 1, counted from 0, is the first that breaks a rule, by itself (its address, its moment, its
+ *                   place, or the place row, which does not name it) or against the row before (the order). It lies in the 12
+ *                   bytes from 12 (n - 1) on of the record table. Where n is the record count, it may also be that no row breaks a
+ *                   rule and only the number of places in use is wrong; where n is 0, it is that;
+ *   with all else   the record count of the head as it was lent: all counted rows were read, and none breaks a rule.
  *
  *
  * WHAT A RECLAIM LEAVES
@@ -131,18 +145,19 @@
 #include <stdint.h>
 
 /* The version of this header and of the archive beside it; CHANGELOG.md says what changed. */
-#define KIZMOOLET_VERSION "0.4.0"
+#define KIZMOOLET_VERSION "0.5.0"
 #define KIZMOOLET_VERSION_MAJOR 0
-#define KIZMOOLET_VERSION_MINOR 4
+#define KIZMOOLET_VERSION_MINOR 5
 #define KIZMOOLET_VERSION_PATCH 0
 
 #define KIZMOOLET_OK 0u
 
-/* Result of kizmoolet_fresh (1) and kizmoolet_batch (1, 2, 3): nothing is written but the counts, which are zero. */
+/* Result of kizmoolet_fresh (1) and kizmoolet_batch (1, 2, 3): nothing is written but the counts, zero but for the
+   record rows read (HOW FAR THE TABLE CHECK CAME). */
 #define KIZMOOLET_OUT_OF_RANGE 1u       /* head, counts or lengths outside their ranges, a table no whole number of rows, or
                                            floor above now */
 #define KIZMOOLET_BRANCHES_UNSOUND 2u   /* branch rows or names not sound */
-#define KIZMOOLET_RECORDS_UNSOUND 3u    /* records or places not sound */
+#define KIZMOOLET_RECORDS_UNSOUND 3u    /* records or places not sound; rows_read says which row */
 
 /* Refusal in an answer; the batch goes on. */
 #define KIZMOOLET_ADDRESS_TOO_HIGH 4u   /* write, read: address at or above A */
@@ -234,11 +249,12 @@ uint32_t kizmoolet_fresh(uint32_t size, uint8_t *head, size_t head_len, uint8_t 
  * Result: 0 where all requests were answered, else the number at which the batch stopped.
  * Always written, zero where the result is 1, 2 or 3: the requests answered, refused ones included; the bytes of those
  * requests, which is where in the batch the next one begins; and the bytes of their answers.
+ * Always written, too: the record rows that the table check read (HOW FAR THE TABLE CHECK CAME).
  */
 uint32_t kizmoolet_batch(uint8_t *head, size_t head_len, uint8_t *branches, size_t branches_len,
     uint8_t *records, size_t records_len, uint8_t *places, size_t places_len, uint8_t *names, size_t names_len,
     uint8_t *slab, size_t slab_len, const uint8_t *batch, size_t batch_len, uint8_t *answers, size_t answers_len,
-    uint64_t *answered, uint64_t *request_bytes, uint64_t *answer_bytes);
+    uint64_t *answered, uint64_t *request_bytes, uint64_t *answer_bytes, uint64_t *rows_read);
 
 #ifdef __cplusplus
 }

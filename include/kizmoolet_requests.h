@@ -7,7 +7,8 @@
  *     kizmoolet_add_mark(&requests);
  *     if (requests.failed)
  *         .. a request could not be added: this is not the batch that was meant, do not send it ..
- *     stop = kizmoolet_batch(.., batch, requests.length, answers, sizeof answers, &answered, &request_bytes, &answer_bytes);
+ *     stop = kizmoolet_batch(.., batch, requests.length, answers, sizeof answers, &answered, &request_bytes, &answer_bytes,
+ *         &rows_read);
  *
  *     struct kizmoolet_answers from = kizmoolet_answers_in(answers, (size_t)answer_bytes);
  *     struct kizmoolet_answer answer;

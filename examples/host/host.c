@@ -2,8 +2,9 @@
 
      host new IMAGE SIZE BRANCHES RECORDS PLACES   make the image of a fresh store
      host run [OPTIONS] IMAGE [ANSWER_BYTES]       standard input is one batch; the answers and then one byte, the stop
-                                                   number, go to standard output; the stop number, the counts, and the
-                                                   branches before and after go to standard error
+                                                   number, go to standard output; the stop number, the four counts, and
+                                                   the branches before and after go to standard error; with stop number 3
+                                                   the record row that breaks a rule, counted from 0
      host grow IMAGE BRANCHES RECORDS PLACES       the same store over larger tables
      host copy IMAGE TO [BRANCHES RECORDS PLACES]  a copy of the store in the new file TO, without what lies in the slab
                                                    behind the last page in use; with larger tables if they are given
@@ -464,7 +465,7 @@ static int make(const char *path, char **sizes) {
 /* What a call of the library reports. */
 struct done {
     uint32_t stop;
-    uint64_t answered, request_bytes, answer_bytes;
+    uint64_t answered, request_bytes, answer_bytes, rows_read;
 };
 
 static struct done call(
@@ -472,8 +473,34 @@ static struct done call(
     struct done done;
     done.stop = kizmoolet_batch(image->head, HEAD, image->branches, image->branches_len, image->records,
         image->records_len, image->places, image->places_len, image->names, NAMES, image->slab, image->slab_len, batch,
-        batch_len, answers, answers_len, &done.answered, &done.request_bytes, &done.answer_bytes);
+        batch_len, answers, answers_len, &done.answered, &done.request_bytes, &done.answer_bytes, &done.rows_read);
     return done;
+}
+
+static uint32_t places_in_use(const struct image *image) {
+    uint32_t in_use = 0;
+    for (size_t at = 0; at < image->places_len; at += KIZMOOLET_PLACE_BYTES)
+        in_use += number_at(image->places + at) != 0;
+    return in_use;
+}
+
+/* What is wrong where the stop number is 3. The last row read is the first that breaks a rule; where all were read, and not
+   as many places are in use, it may be that no row does. */
+static const char *broken_rule(const struct image *image, uint64_t rows_read) {
+    static char words[256];
+    char only[80] = "";
+    uint32_t count = number_at(image->head + KIZMOOLET_HEAD_RECORDS_AT), in_use = places_in_use(image);
+    if (rows_read == count && in_use != count)
+        snprintf(only, sizeof only, "only the number of places in use is wrong: %lu", (unsigned long)in_use);
+    if (rows_read == 0) {
+        strcpy(words, only);
+        return words;
+    }
+    const uint8_t *row = image->records + KIZMOOLET_RECORD_BYTES * (rows_read - 1);
+    snprintf(words, sizeof words, "record row %llu breaks a rule: address %lu, moment %lu, place %lu%s%s",
+        (unsigned long long)rows_read - 1, (unsigned long)number_at(row), (unsigned long)number_at(row + 4),
+        (unsigned long)number_at(row + 8), only[0] ? "; or no row does, and " : "", only);
+    return words;
 }
 
 /* The batch on standard input, in memory that grows with it. */
@@ -572,10 +599,14 @@ static int run(const char *path, const char *limit, const struct options *option
     answers[done.answer_bytes] = (uint8_t)done.stop;
     if (write_all(1, answers, (size_t)done.answer_bytes + 1) != 0)
         fail(4, "the answers could not be written: %s; the requests are carried out", strerror(errno));
-    fprintf(stderr, "stop %lu: %llu request%s answered, %llu refused, %llu bytes of requests, %llu bytes of answers%s",
+    fprintf(stderr, "stop %lu: %llu request%s answered, %llu refused, %llu bytes of requests, %llu bytes of answers",
         (unsigned long)done.stop, (unsigned long long)done.answered, several(done.answered), (unsigned long long)refused,
-        (unsigned long long)done.request_bytes, (unsigned long long)done.answer_bytes,
-        undone ? "; nothing was carried out" : "");
+        (unsigned long long)done.request_bytes, (unsigned long long)done.answer_bytes);
+    fprintf(stderr, ", %llu record row%s read", (unsigned long long)done.rows_read, several(done.rows_read));
+    if (done.stop == KIZMOOLET_RECORDS_UNSOUND)
+        fprintf(stderr, "; %s", broken_rule(&image, done.rows_read));
+    if (undone)
+        fputs("; nothing was carried out", stderr);
     if (!undone && (done.stop == KIZMOOLET_OK || done.stop >= KIZMOOLET_CUT_SHORT)) /* the tables are sound */
         fprintf(stderr, "; branches: %lu before, %lu after", (unsigned long)branch_count(&before),
             (unsigned long)branch_count(&image));
@@ -602,7 +633,9 @@ static struct image enlarged(const char *path, struct image *image, const uint32
         if (rows[at] < were)
             fail(1, "%s has %lu %s, and gets no fewer", path, (unsigned long)were, table_rows[at]);
     }
-    uint32_t stop = call(image, NULL, 0, NULL, 0).stop;
+    struct done done = call(image, NULL, 0, NULL, 0);
+    if (done.stop == KIZMOOLET_RECORDS_UNSOUND)
+        fail(1, "stop 3: the tables are not sound, and stay as they are; %s", broken_rule(image, done.rows_read));
     struct image larger = empty_image(rows[0], rows[1], rows[2]);
     memcpy(larger.head, image->head, HEAD);
     memcpy(larger.branches, image->branches, image->branches_len);
@@ -610,10 +643,10 @@ static struct image enlarged(const char *path, struct image *image, const uint32
     memcpy(larger.places, image->places, image->places_len);
     memcpy(larger.names, image->names, NAMES);
     memcpy(larger.slab, image->slab, image->slab_len);
-    if (!stop)
-        stop = call(&larger, NULL, 0, NULL, 0).stop;
-    if (stop)
-        fail(1, "stop %lu: the tables are not sound, and stay as they are", (unsigned long)stop);
+    if (!done.stop)
+        done = call(&larger, NULL, 0, NULL, 0);
+    if (done.stop)
+        fail(1, "stop %lu: the tables are not sound, and stay as they are", (unsigned long)done.stop);
     return larger;
 }
 

@@ -34,6 +34,9 @@ static const char *const area_names[AREAS] = {
 
 enum { MARGIN = 512 };
 
+/* What a batch counts: requests answered, their bytes, the bytes of their answers, record rows read. */
+enum { COUNTS = 4 };
+
 /* More than the largest number that is a refusal or a stop; and one after the largest. */
 enum { NUMBERS = 32, NUMBERS_END = KIZMOOLET_NO_SUCH_NAME + 1 };
 
@@ -279,11 +282,12 @@ static void run_batch(void)
     get_area(&areas[BATCH]);
     get_area(&areas[ANSWERS]);
     uint64_t stop = get_number();
-    uint64_t counted[3];
-    for (int i = 0; i < 3; i++)
+    uint64_t counted[COUNTS];
+    static uint64_t got[COUNTS];
+    for (int i = 0; i < COUNTS; i++) {
         counted[i] = get_number();
-    static uint64_t got[3];
-    got[0] = got[1] = got[2] = 77;
+        got[i] = ~counted[i]; /* another number than is due: each count must be written */
+    }
     /* The library only reads the batch. */
     if (areas[BATCH].length != 0)
         memcpy(expected, areas[BATCH].bytes, areas[BATCH].length);
@@ -301,15 +305,15 @@ static void run_batch(void)
             areas[SLAB].bytes, areas[SLAB].length,
             areas[BATCH].bytes, areas[BATCH].length,
             areas[ANSWERS].bytes, areas[ANSWERS].length,
-            &got[0], &got[1], &got[2]);
+            &got[0], &got[1], &got[2], &got[3]);
         calling = 0;
         counts.stops[got_stop % NUMBERS]++;
         if (got_stop != stop || memcmp(got, counted, sizeof got) != 0) {
             differs("what is reported of", "the batch");
             if (printed <= 20)
-                printf("  stop %" PRIu32 ", should %" PRIu64 "; counts %" PRIu64 " %" PRIu64 " %" PRIu64
-                       ", should %" PRIu64 " %" PRIu64 " %" PRIu64 "\n",
-                    got_stop, stop, got[0], got[1], got[2], counted[0], counted[1], counted[2]);
+                printf("  stop %" PRIu32 ", should %" PRIu64 "; counts %" PRIu64 " %" PRIu64 " %" PRIu64 " %" PRIu64
+                       ", should %" PRIu64 " %" PRIu64 " %" PRIu64 " %" PRIu64 "\n",
+                    got_stop, stop, got[0], got[1], got[2], got[3], counted[0], counted[1], counted[2], counted[3]);
         } else {
             counts.answered += got[0];
             count_refusals(got[0], got[2]);

@@ -5,8 +5,8 @@
       area that is too short nothing is packed, and answers that are cut short anywhere are not unpacked. For every place table
       that it writes, up to which byte the slab is in use; only whole rows are looked at. For every name table, which row has a
       name, and its moment.
-   2. Each of the numbers 0 to 17, by its name, comes from the library where the header says, and so do a page's date and the
-      rows of names. */
+   2. Each of the numbers 0 to 17, by its name, comes from the library where the header says, and so do a page's date, the rows
+      of names, and the record rows read. */
 
 #include "kizmoolet.h"
 #include "kizmoolet_requests.h"
@@ -307,12 +307,12 @@ static void against_reference(void)
 
 /* A store of the smallest tables, and some more. */
 static uint8_t head[KIZMOOLET_HEAD_BYTES], branches[KIZMOOLET_BRANCH_BYTES * 2], records[KIZMOOLET_RECORD_BYTES * 2];
-static uint8_t places[KIZMOOLET_PLACE_BYTES * 2], names[KIZMOOLET_NAMES_BYTES], slab[KIZMOOLET_PAGE_BYTES * 2];
+static uint8_t places[KIZMOOLET_PLACE_BYTES * 3], names[KIZMOOLET_NAMES_BYTES], slab[KIZMOOLET_PAGE_BYTES * 3];
 static size_t branch_rows, record_rows, place_rows;
 static uint8_t batch[ROOM], answers_area[ROOM];
 static struct kizmoolet_requests list;
 static struct kizmoolet_answers answers;
-static uint64_t answered, request_bytes, answer_bytes;
+static uint64_t answered, request_bytes, answer_bytes, rows_read;
 static const uint8_t letters[KIZMOOLET_PAGE_BYTES] = { 'A' };
 
 static void put_number(uint8_t *to, uint32_t number)
@@ -340,9 +340,12 @@ static uint32_t send_to(size_t room)
 {
     uint32_t stop;
     CHECK(!list.failed);
+    answered = request_bytes = answer_bytes = rows_read = UINT64_MAX; /* each is written */
     stop = kizmoolet_batch(head, sizeof head, branches, KIZMOOLET_BRANCH_BYTES * branch_rows, records,
         KIZMOOLET_RECORD_BYTES * record_rows, places, KIZMOOLET_PLACE_BYTES * place_rows, names, sizeof names, slab,
-        KIZMOOLET_PAGE_BYTES * place_rows, batch, list.length, answers_area, room, &answered, &request_bytes, &answer_bytes);
+        KIZMOOLET_PAGE_BYTES * place_rows, batch, list.length, answers_area, room, &answered, &request_bytes, &answer_bytes,
+        &rows_read);
+    CHECK(answered <= list.length && request_bytes <= list.length && answer_bytes <= room && rows_read <= record_rows);
     list = kizmoolet_requests_in(batch, sizeof batch);
     answers = kizmoolet_answers_in(answers_area, (size_t)answer_bytes);
     return stop;
@@ -446,6 +449,28 @@ static void named(void)
     CHECK(send_list() == KIZMOOLET_CUT_SHORT);
     kizmoolet_add_named(&list, KIZMOOLET_WITHDRAW, 1, built);
     CHECK(send_list() == KIZMOOLET_SPARE_BITS);
+}
+
+/* How many record rows the table checks read: the count before the batch; with 3 up to the first row that breaks a rule, or all
+   where only the number of places in use is wrong; none with 1 and 2. */
+static void rows(void)
+{
+    fresh(2, 2, 3);
+    kizmoolet_add_write(&list, 4, letters);
+    kizmoolet_add_write(&list, 5, letters);
+    CHECK(send_list() == KIZMOOLET_OK && answered == 2 && rows_read == 0);
+    kizmoolet_add_mark(&list);
+    CHECK(send_to(KIZMOOLET_ANSWER_BYTES - 1) == KIZMOOLET_ANSWERS_FULL && rows_read == 2);
+    put_number(places + 2 * KIZMOOLET_PLACE_BYTES, 1);
+    CHECK(send_list() == KIZMOOLET_RECORDS_UNSOUND && rows_read == 2);
+    put_number(places + KIZMOOLET_PLACE_BYTES, 0);
+    CHECK(send_list() == KIZMOOLET_RECORDS_UNSOUND && rows_read == 2);
+    put_number(records, 6);
+    CHECK(send_list() == KIZMOOLET_RECORDS_UNSOUND && rows_read == 1);
+    put_number(branches + 8, 1);
+    CHECK(send_list() == KIZMOOLET_BRANCHES_UNSOUND && rows_read == 0);
+    put_number(head + KIZMOOLET_HEAD_FLOOR_AT, 1);
+    CHECK(send_list() == KIZMOOLET_OUT_OF_RANGE && rows_read == 0);
 }
 
 static void by_name(void)
@@ -552,6 +577,7 @@ int main(void)
     against_reference();
     by_name();
     named();
+    rows();
     printf("  %lu checks, %lu wrong\n", checks, wrong);
     return wrong == 0 ? 0 : 1;
 }

@@ -64,11 +64,11 @@ static __attribute__((noinline)) void *call_fresh(void *unused)
 
 static __attribute__((noinline)) void *call_batch(void *unused)
 {
-    uint64_t answered, request_bytes, answer_bytes;
+    uint64_t answered, request_bytes, answer_bytes, rows_read;
     called_from = __builtin_frame_address(0);
     result = kizmoolet_batch(store.head, sizeof store.head, store.branches, store.branches_len, store.records,
         store.records_len, store.places, store.places_len, store.names, sizeof store.names, store.slab, store.slab_len, batch,
-        batch_len, answers, sizeof answers, &answered, &request_bytes, &answer_bytes);
+        batch_len, answers, sizeof answers, &answered, &request_bytes, &answer_bytes, &rows_read);
     return unused;
 }
 

@@ -75,7 +75,7 @@ pub unsafe extern "C" fn kizmoolet_fresh(
 }
 
 /// # Safety
-/// Each pointer is to as many bytes as the length after it says; the three counts may be written.
+/// Each pointer is to as many bytes as the length after it says; the four counts may be written.
 #[no_mangle]
 pub unsafe extern "C" fn kizmoolet_batch(
     head: *mut u8,
@@ -97,6 +97,7 @@ pub unsafe extern "C" fn kizmoolet_batch(
     answered: *mut u64,
     request_bytes: *mut u64,
     answer_bytes: *mut u64,
+    rows_read: *mut u64,
 ) -> u32 {
     let parts = [
         (head, head_len),
@@ -115,5 +116,6 @@ pub unsafe extern "C" fn kizmoolet_batch(
     *answered = report.answered;
     *request_bytes = report.request_bytes;
     *answer_bytes = report.answer_bytes;
+    *rows_read = report.rows_read;
     report.stop
 }

@@ -8,17 +8,24 @@ ghost use lib.ListN.{length};
 ghost use Rattle.model.specs.Batch.{batch};
 ghost use Rattle.model.specs.ByNumber.{Sound, Whole};
 ghost use Rattle.rows.specs.View.{tables, storeOf, Carried};
+ghost use Rattle.soundness.specs.Check.{readOf};
 ghost use Rattle.wire.specs.Requests.{requestOf};
 ghost use Rattle.writing.specs.Free.{NoneBelow};
 ghost use Rattle.batch.specs.Batch.{batchOf, stopOf, BatchLeaves};
 
-// What a batch reports: the head, the stop number, the requests answered, their bytes, and the bytes of their answers.
+// What became of the requests: the head, the stop number, the requests answered, their bytes, and the bytes of their answers.
 pub struct Done {
     pub head: Head,
     pub stop: u32,
     pub answered: usize,
     pub taken: usize,
     pub sent: usize,
+}
+
+// What a batch reports: what became of its requests, and how many record rows the table checks read.
+pub struct Batched {
+    pub done: Done,
+    pub rows: usize,
 }
 
 // One request carried out; part is the input from it on, in which a write's page stands. No place below low is free, before and after:
@@ -129,12 +136,16 @@ pub fn batch(
     slab: &mut [u8],
     input: &[u8],
     answers: &mut [u8],
-) -> Done
-    ensures { λ r. ⌜ BatchLeaves (batchOf head (tables (now (bt .entry)) (now (rt .entry)) (now (pt .entry)) (now (nt .entry)) (now (slab .entry))) (now (input .entry)) (length (now (answers .entry)))) (tables (now (bt .entry)) (now (rt .entry)) (now (pt .entry)) (now (nt .entry)) (now (slab .entry))) (now (answers .entry)) r (tables (now (bt .exit)) (now (rt .exit)) (now (pt .exit)) (now (nt .exit)) (now (slab .exit))) (now (answers .exit)) ⌝ }
+) -> Batched
+    ensures { λ r. ⌜ BatchLeaves (batchOf head (tables (now (bt .entry)) (now (rt .entry)) (now (pt .entry)) (now (nt .entry)) (now (slab .entry))) (now (input .entry)) (length (now (answers .entry)))) (tables (now (bt .entry)) (now (rt .entry)) (now (pt .entry)) (now (nt .entry)) (now (slab .entry))) (now (answers .entry)) (r .done) (tables (now (bt .exit)) (now (rt .exit)) (now (pt .exit)) (now (nt .exit)) (now (slab .exit))) (now (answers .exit)) ⌝ }
+    ensures { λ r. ⌜ r .rows ≡ readOf head (tables (now (bt .entry)) (now (rt .entry)) (now (pt .entry)) (now (nt .entry)) (now (slab .entry))) ⌝ }
 {
-    let refusal = soundness::check(head, bt, rt, pt, nt, slab);
-    if refusal != 0 {
-        return report(head, refusal, 0, 0, 0);
+    let found = soundness::check(head, bt, rt, pt, nt, slab);
+    let rows = found.rows;
+    if found.refusal != 0 {
+        let done = report(head, found.refusal, 0, 0, 0);
+        return Batched { done, rows };
     }
-    run(head, bt, rt, pt, nt, slab, input, answers)
+    let done = run(head, bt, rt, pt, nt, slab, input, answers);
+    Batched { done, rows }
 }

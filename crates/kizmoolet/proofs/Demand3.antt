@@ -23,7 +23,7 @@ use Rattle.model.proofs.Freshness.{made-inv, made-narrow, made-kept}
 use Rattle.model.proofs.Demand3.{demand3}
 use Rattle.kizmoolet.specs.Lent.{Lent, fits, storeIn, withStore}
 use Rattle.kizmoolet.specs.Fresh.{freshBytes}
-use Rattle.kizmoolet.specs.Batch.{BatchLeft, batchLeft, checkIn, runLeft, batchBytes}
+use Rattle.kizmoolet.specs.Batch.{BatchLeft, batchLeft, checkIn, readIn, runLeft, batchBytes}
 use Rattle.kizmoolet.specs.Demand3.{AreaCall, left, areasAfter, answeredIn, inFrontOf, Sent, AllSent, Demand3}
 use Rattle.kizmoolet.proofs.Batch.{bytes-served}
 use Rattle.kizmoolet.proofs.Holding.{Holds, stored-holds}
@@ -43,7 +43,7 @@ unfolding checkIn
 passes l s r = rw (r .holds .fit, r .holds .store) (sound-check s (r .sound))
 
 -- what a call leaves: the model's run, put into the areas
-pub served : (l : Lent) (s : Store) → Ready l s → (input area : List ℕ) → batchBytes l input area ≡ runLeft (batch s input (length area)) l area
+pub served : (l : Lent) (s : Store) → Ready l s → (input area : List ℕ) → batchBytes l input area ≡ runLeft (batch s input (length area)) (readIn l) l area
 served l s r input area = bytes-served l input area (passes l s r) ∙ rw (r .holds .store)
 
 ready-after : (l : Lent) (s : Store) → Ready l s → (c : AreaCall) → Ready (left l c .areas) (batch s (c .input) (length (c .area)) .store)
@@ -72,7 +72,7 @@ follows l s r (c ∷ cs) =
 sent : (l : Lent) (s : Store) → Ready l s → (c : AreaCall) → Sent l c
 sent l s r c =
     let run : Run = batch (storeIn l) (c .input) (length (c .area)) in
-    let e : left l c ≡ runLeft run l (c .area) = bytes-served l (c .input) (c .area) (passes l s r) in
+    let e : left l c ≡ runLeft run (readIn l) l (c .area) = bytes-served l (c .input) (c .area) (passes l s r) in
     let o : run .out ≡ answersOf (run .log) = batch-sends (storeIn l) (c .input) (length (c .area)) in
     let k : tableCheck (storeIn l) ≡ 0 = rw (r .holds .store) (sound-check s (r .sound)) in
     record {
@@ -90,7 +90,7 @@ all-sent l s r (c ∷ cs) = (sent l s r c, all-sent (left l c .areas) _ (ready-a
 pub reads : (size : ℕ) (l : Lent) (s : Store) (p : Reference) (es : List Answered) → Ready l s → Agrees size s p es → (a t : ℕ) (area : List ℕ) → a < size → Readable p t
     → length (answerBytes (readAnswer t (p .snapshot t a))) ≤ length area
     → batchBytes l (requestBytes (readAt a t)) area
-    ≡ batchLeft 0 1 7 (length (answerBytes (readAnswer t (p .snapshot t a)))) l (inFrontOf (answerBytes (readAnswer t (p .snapshot t a))) area)
+    ≡ batchLeft 0 1 7 (length (answerBytes (readAnswer t (p .snapshot t a)))) (readIn l) l (inFrontOf (answerBytes (readAnswer t (p .snapshot t a))) area)
 reads size l s p es r g a t area i v h =
     served l s r (requestBytes (readAt a t)) area ∙ rw (g .sent a t (length area) i v h, r .holds .areas, append-nil (answerBytes (readAnswer t (p .snapshot t a))))
 

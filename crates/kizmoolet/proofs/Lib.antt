@@ -5,3 +5,4 @@ pub mod Holding
 pub mod Demand3
 pub mod Packed
 pub mod Commissioned
+pub mod RowsRead

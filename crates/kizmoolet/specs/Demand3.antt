@@ -10,7 +10,7 @@ use Rattle.model.specs.Reference.{Reference, empty}
 use Rattle.model.specs.Demand3.{fed, Readable, readAnswer, Agrees}
 use Rattle.kizmoolet.specs.Lent.{Lent, storeIn}
 use Rattle.kizmoolet.specs.Fresh.{freshBytes}
-use Rattle.kizmoolet.specs.Batch.{BatchLeft, batchLeft, batchBytes}
+use Rattle.kizmoolet.specs.Batch.{BatchLeft, batchLeft, readIn, batchBytes}
 
 -- a call: the bytes of a batch, and an answer area with what stands in it
 pub record AreaCall : Type 0 where
@@ -57,7 +57,7 @@ pub record AgreesIn (size : ℕ) (l : Lent) (p : Reference) (es : List Answered)
   -- a call next after the list that holds just a read, by its bytes: the areas stay, and the answer is the snapshot's page
   pub reads : (a t : ℕ) (area : List ℕ) → a < size → Readable p t → length (answerBytes (readAnswer t (p .snapshot t a))) ≤ length area
       → batchBytes l (requestBytes (readAt a t)) area
-      ≡ batchLeft 0 1 7 (length (answerBytes (readAnswer t (p .snapshot t a)))) l
+      ≡ batchLeft 0 1 7 (length (answerBytes (readAnswer t (p .snapshot t a)))) (readIn l) l
       (inFrontOf (answerBytes (readAnswer t (p .snapshot t a))) area)
 
 -- for whatever areas are lent, if a fresh store of `size` pages is not refused there: every list of calls

@@ -4,3 +4,4 @@ pub mod Batch
 pub mod Demand3
 pub mod Packed
 pub mod Commissioned
+pub mod RowsRead

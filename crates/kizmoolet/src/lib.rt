@@ -1,15 +1,16 @@
 // The entries for C: head and tables as bytes, decoded to local arrays and encoded back.
+use batch::Batched;
 use batch::Done;
 use fresh::Made;
 use model::Head;
+use record_check::Finding;
 ghost use mathlib.Core.Path.{_≡_};
 ghost use mathlib.Core.Bool.{true};
 ghost use lib.ListN.{length};
 ghost use Rattle.model.specs.ByNumber.{Sound};
 ghost use Rattle.model.specs.Batch.{batch};
-ghost use Rattle.rows.specs.Rows.{zeros};
 ghost use Rattle.rows.specs.View.{tables, numberTables, storeOf};
-ghost use Rattle.soundness.specs.Check.{checkOf};
+ghost use Rattle.soundness.specs.Check.{findingOf};
 ghost use Rattle.tables.specs.Tables.{numbersIn, Room};
 ghost use Rattle.kizmoolet.specs.Lent.{lent, fits};
 ghost use Rattle.kizmoolet.specs.Batch.{batchLeft, BatchDone, RunSaved, TriedOn};
@@ -17,8 +18,8 @@ ghost use Rattle.kizmoolet.specs.Fresh.{freshLeft, FreshDone, FreshSaved
 
 // What a batch on tables of bytes came to: refused by the table checks, or carried out.
 pub enum Tried {
-    Refused(u32),
-    Served(Done),
+    Refused(Finding),
+    Served(Batched),
 }
 
 // A fresh store made in tables of zeros and written as bytes; a refusal writes nothing.
@@ -120,7 +121,7 @@ pub extern "C" fn kizmoolet_fresh(
     fresh_areas(size, head, branches, records, places, names, slab)
 }
 
-// The numbers of the tables, and the refusal of the table checks. The areas are only read.
+// The numbers of the tables, and what the table checks find. The areas are only read.
 fn load_checked(
     head: Head,
     branches: &[u8],
@@ -132,9 +133,9 @@ fn load_checked(
     rt: &mut [u32],
     pt: &mut [u32],
     nt: &mut [u32],
-) -> u32
+) -> Finding
     requires { ⌜ Room (numberTables (now branches) (now records) (now places) (now names)) (numberTables (now bt) (now rt) (now pt) (now nt)) ⌝ }
-    ensures { λ r. ⌜ r ≡ checkOf head (numbersIn (tables (now (branches .entry)) (now (records .entry)) (now (places .entry)) (now (names .entry)) (now (slab .entry)))) ⌝ }
+    ensures { λ r. ⌜ r ≡ findingOf head (numbersIn (tables (now (branches .entry)) (now (records .entry)) (now (places .entry)) (now (names .entry)) (now (slab .entry)))) ⌝ }
     ensures { λ _. ⌜ numberTables (now (bt .exit)) (now (rt .exit)) (now (pt .exit)) (now (nt .exit)) ≡ numbersIn (numberTables (now (branches .entry)) (now (records .entry)) (now (places .entry)) (now (names .entry))) ⌝ }
 {
     tables::load(branches, records, places, names, bt, rt, pt, nt);
@@ -184,9 +185,9 @@ fn batch_tables(
     requires { ⌜ Room (numberTables (now branches) (now records) (now places) (now names)) (numberTables (now bt) (now rt) (now pt) (now nt)) ⌝ }
     ensures { λ r. ⌜ TriedOn head (tables (now (branches .entry)) (now (records .entry)) (now (places .entry)) (now (names .entry)) (now (slab .entry))) (now (batch .entry)) (now (answers .entry)) r (tables (now (branches .exit)) (now (records .exit)) (now (places .exit)) (now (names .exit)) (now (slab .exit))) (now (answers .exit)) ⌝ }
 {
-    let refusal = load_checked(head, branches, records, places, names, slab, bt, rt, pt, nt);
-    if refusal != 0 {
-        return Tried::Refused(refusal);
+    let found = load_checked(head, branches, records, places, names, slab, bt, rt, pt, nt);
+    if found.refusal != 0 {
+        return Tried::Refused(found);
     }
     let done = run_saved(
         head,
@@ -202,7 +203,8 @@ fn batch_tables(
         pt,
         nt,
     );
-    Tried::Served(done)
+    let rows = found.rows;
+    Tried::Served(Batched { done, rows })
 }
 
 // A batch on areas of bytes whose lengths fit; a refusal writes nothing.
@@ -215,9 +217,9 @@ fn batch_areas(
     slab: &mut [u8],
     batch: &[u8],
     answers: &mut [u8],
-) -> Done
+) -> Batched
     requires { ⌜ fits (lent (now head) (now branches) (now records) (now places) (now names) (now slab)) ≡ true ⌝ }
-    ensures { λ r. ⌜ BatchDone (lent (now (head .entry)) (now (branches .entry)) (now (records .entry)) (now (places .entry)) (now (names .entry)) (now (slab .entry))) (now (batch .entry)) (now (answers .entry)) (batchLeft (r .stop) (r .answered) (r .taken) (r .sent) (lent (now (head .exit)) (now (branches .exit)) (now (records .exit)) (now (places .exit)) (now (names .exit)) (now (slab .exit))) (now (answers .exit))) ⌝ }
+    ensures { λ r. ⌜ BatchDone (lent (now (head .entry)) (now (branches .entry)) (now (records .entry)) (now (places .entry)) (now (names .entry)) (now (slab .entry))) (now (batch .entry)) (now (answers .entry)) (batchLeft (r .done .stop) (r .done .answered) (r .done .taken) (r .done .sent) (r .rows) (lent (now (head .exit)) (now (branches .exit)) (now (records .exit)) (now (places .exit)) (now (names .exit)) (now (slab .exit))) (now (answers .exit))) ⌝ }
 {
     let nb = branches.len() / 4;
     let nr = records.len() / 4;
@@ -242,17 +244,21 @@ fn batch_areas(
         &mut nt,
     );
     match tried {
-        Tried::Refused(n) => batch::report(first, n, 0, 0, 0),
-        Tried::Served(done) => {
-            let last = done.head;
+        Tried::Refused(found) => {
+            let done = batch::report(first, found.refusal, 0, 0, 0);
+            let rows = found.rows;
+            Batched { done, rows }
+        }
+        Tried::Served(served) => {
+            let last = served.done.head;
             tables::put_head(head, last);
-            done
+            served
         }
     }
 }
 
 // Carries out a batch; the result is the stop number. Always written: the requests answered, the bytes of those requests that were
-// taken, and the bytes of their answers that were sent.
+// taken, the bytes of their answers that were sent, and how many record rows the table checks read.
 #[no_mangle]
 pub extern "C" fn kizmoolet_batch(
     head: &mut [u8],
@@ -266,8 +272,9 @@ pub extern "C" fn kizmoolet_batch(
     answered: &mut u64,
     taken: &mut u64,
     sent: &mut u64,
+    rows: &mut u64,
 ) -> u32
-    ensures { λ r. ⌜ BatchDone (lent (now (head .entry)) (now (branches .entry)) (now (records .entry)) (now (places .entry)) (now (names .entry)) (now (slab .entry))) (now (batch .entry)) (now (answers .entry)) (batchLeft r (now (answered .exit)) (now (taken .exit)) (now (sent .exit)) (lent (now (head .exit)) (now (branches .exit)) (now (records .exit)) (now (places .exit)) (now (names .exit)) (now (slab .exit))) (now (answers .exit))) ⌝ }
+    ensures { λ r. ⌜ BatchDone (lent (now (head .entry)) (now (branches .entry)) (now (records .entry)) (now (places .entry)) (now (names .entry)) (now (slab .entry))) (now (batch .entry)) (now (answers .entry)) (batchLeft r (now (answered .exit)) (now (taken .exit)) (now (sent .exit)) (now (rows .exit)) (lent (now (head .exit)) (now (branches .exit)) (now (records .exit)) (now (places .exit)) (now (names .exit)) (now (slab .exit))) (now (answers .exit))) ⌝ }
 {
     let fit = tables::lengths_fit(
         head.len(),
@@ -280,11 +287,14 @@ pub extern "C" fn kizmoolet_batch(
         *answered = 0;
         *taken = 0;
         *sent = 0;
+        *rows = 0;
         return 1;
     }
-    let done = batch_areas(head, branches, records, places, names, slab, batch, answers);
+    let report = batch_areas(head, branches, records, places, names, slab, batch, answers);
+    let done = report.done;
     *answered = done.answered as u64;
     *taken = done.taken as u64;
     *sent = done.sent as u64;
+    *rows = report.rows as u64;
     done.stop
 }

@@ -1,5 +1,6 @@
 -- What the core does with the first rows of a flat table, said of those rows; and what too many rows are refused with.
 use mathlib.Core.Path.{_≡_, refl, sym, ap, _∙_}
+use mathlib.Core.Logic.{inl}
 use mathlib.Core.Bool.{true, false, _&&_}
 use mathlib.Core.List.{List, _++_}
 use Prim.Native.Nat.{ℕ, _*_, _%_, _<_}
@@ -16,17 +17,18 @@ use Rattle.model.specs.Soundness.{sizesAllowed, inRange, tableCheck, between}
 use Rattle.model.specs.Batch.{Run, batch, ended}
 use Rattle.model.specs.Fresh.{freshCheck, madeFresh}
 use Rattle.model.proofs.Base.{case, and→}
+use Rattle.model.proofs.RowsRead.{rows-tell}
 use Rattle.rows.specs.Rows.{branchWidth, branchRowsOf, recordRowsOf, nameRowsOf, BranchesIn}
 use Rattle.rows.specs.View.{Tables, tables, storeOf, laid}
 use Rattle.rows.proofs.Laws.{branch-kind, record-kind, name-kind, relaid-own}
 use Rattle.rows.proofs.Relaid.{front-rows}
-use Rattle.soundness.specs.Check.{wholeRows, wholeTables, allowedIn}
+use Rattle.soundness.specs.Check.{wholeRows, wholeTables, allowedIn, readOf}
 use Rattle.soundness.proofs.Checked.{allowed-rows}
 use Rattle.batch.specs.declared.Done.{Done}
 use Rattle.batch.specs.Batch.{batchOf, BatchLeaves as CoreLeaves}
 use Rattle.fresh.specs.declared.Made.{Made}
 use Rattle.fresh.specs.Fresh.{freshOf, refusalOf, Fresh}
-use Rattle.lent.specs.Lent.{Lent, lent, lentStore, laidOver, wholeOthers, lentBatch, lentFresh, lentRefusal, BatchLeaves, FreshLeaves}
+use Rattle.lent.specs.Lent.{Lent, lent, lentStore, laidOver, wholeOthers, lentBatch, lentRead, lentFresh, lentRefusal, BatchLeaves, FreshLeaves}
 use Rattle.lent.proofs.Loading.{relaid-first}
 
 -- a fresh store of sizes that are not allowed is not made
@@ -69,6 +71,11 @@ module _ (n : ℕ) (t : List ℕ) (fits : BranchesIn n t) where
     unfolding batchOf lentBatch
     batch-front head input space = rw (front-whole, front-store head)
 
+    -- the rows read are those of the batch on the rows
+    pub read-front : (head : Head) → readOf head T ≡ lentRead head L
+    unfolding readOf lentRead
+    read-front head = rw (front-whole, front-store head)
+
     -- the sizes that are allowed, of the rows
     front-allowed : (size : ℕ) → allowedIn size T ≡ (wholeOthers L && sizesAllowed size (length (L .branches)) (length (recordRowsOf rt)) (length pt) (length (nameRowsOf nt)) (length slab))
     front-allowed size = allowed-rows size T ∙ rw (front-whole, front-rows branch-kind n t fits)
@@ -101,9 +108,9 @@ module _ (n : ℕ) (t : List ℕ) (fits : BranchesIn n t) where
           λ i. record { branches = b i; records = e i .records; places = e i .places; names = e i .names; slab = e i .slab }
 
       -- the core's batch on the rows' numbers is the batch on the rows
-      pub batch-back : (head : Head) (input area : List ℕ) {d : Done} {rt′ pt′ nt′ slab′ area′ : List ℕ}
+      pub batch-back : (head : Head) (input area : List ℕ) {d : Done} {rows : ℕ} {rt′ pt′ nt′ slab′ area′ : List ℕ}
           → CoreLeaves (batchOf head T input (length area)) T area d (tables u rt′ pt′ nt′ slab′) area′
-          → BatchLeaves (lentBatch head L input (length area)) L area (record { stop = d .stop; answered = d .answered; taken = d .taken; sent = d .sent }) (d .head) (lent (take n (branchRowsOf (u ++ rest))) rt′ pt′ nt′ slab′) area′
+          → BatchLeaves (lentBatch head L input (length area)) L area (record { stop = d .stop; answered = d .answered; taken = d .taken; sent = d .sent; rows = rows }) (d .head) (lent (take n (branchRowsOf (u ++ rest))) rt′ pt′ nt′ slab′) area′
       batch-back head input area l =
           let run : Run = batchOf head T input (length area) in
           rw (sym (batch-front head input (length area)))
@@ -141,14 +148,23 @@ module _ (head : Head) (l : Lent) (many : 4096 < length (l .branches)) where
       absurd (omega (arith, many, leb-true (length (l .branches)) 4096 (and→ (leb 1 (length (l .branches))) _ rows-allowed .1))))
       (λ e. e)
 
-  many-batch : (input : List ℕ) (space : ℕ) → lentBatch head l input space ≡ ended S 1
-  unfolding lentBatch batch tableCheck inRange
-  many-batch input space =
+  many-check : tableCheck S ≡ 1
+  unfolding tableCheck inRange
+  many-check =
       let e : sizesAllowed (head .size) (length (l .branches)) (length (recordRowsOf (l .records))) (length (l .places)) (length (nameRowsOf (l .names))) (length (l .slab)) ≡ false =
       over (head .size) (length (recordRowsOf (l .records))) (length (l .places)) (length (nameRowsOf (l .names))) (length (l .slab)) in
-      case (wholeOthers l) (λ w. rw (w, e)) (λ w. rw w)
+      rw e
 
-  pub many-batch-leaves : (input area : List ℕ) → BatchLeaves (lentBatch head l input (length area)) l area (record { stop = 1; answered = 0; taken = 0; sent = 0 }) head l area
+  many-batch : (input : List ℕ) (space : ℕ) → lentBatch head l input space ≡ ended S 1
+  unfolding lentBatch batch
+  many-batch input space = case (wholeOthers l) (λ w. rw (w, many-check)) (λ w. rw w)
+
+  -- no record row is read
+  pub many-read : 0 ≡ lentRead head l
+  unfolding lentRead
+  many-read = case (wholeOthers l) (λ w. rw (w, rows-tell S .unread (inl many-check))) (λ w. rw w)
+
+  pub many-batch-leaves : (input area : List ℕ) → BatchLeaves (lentBatch head l input (length area)) l area (record { stop = 1; answered = 0; taken = 0; sent = 0; rows = 0 }) head l area
   many-batch-leaves input area =
       rw (many-batch input (length area))
       (record { stop = refl; answered = refl; taken = refl; sent = refl; head = refl; tables = laid-itself head l; answers = refl })

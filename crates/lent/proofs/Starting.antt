@@ -15,7 +15,7 @@ use Rattle.rows.specs.Rows.{recordWidth, recordRowsOf, recordTable, RecordsLaid
 use Rattle.rows.proofs.Laws.{record-kind, name-kind}
 use Rattle.rows.proofs.Relaid.{laid-rows, laid-over}
 use Rattle.lent.specs.declared.Report.{Report}
-use Rattle.lent.specs.Lent.{Lent, lent, lentStore, wholeOthers, lentBatch, lentFresh, BatchLeaves, FreshLeaves, freshStart, freshBatch}
+use Rattle.lent.specs.Lent.{Lent, lent, lentStore, wholeOthers, lentBatch, lentRead, lentFresh, BatchLeaves, FreshLeaves, freshStart, freshBatch, freshRead}
 
 -- a fresh store leaves the slab untouched
 made-slab : (s : Store) (size : ℕ) → madeFresh s size .slab ≡ s .slab
@@ -56,11 +56,16 @@ module _ (size : ℕ) (l : Lent) (r : ℕ) (h₁ : Head) (l₁ : Lent) (same : l
         slab = made .tables i .slab;
       }
 
+  whole-made : wholeOthers l₁ ≡ wholeOthers l
+  whole-made = ap₂ (λ (n k : ℕ). eqb (n % recordWidth) 0 && eqb (k % nameWidth) 0) same same-names
+
   batch-made : (input : List ℕ) (space : ℕ) → lentBatch h₁ l₁ input space ≡ freshBatch size l input space
   unfolding lentBatch freshBatch
-  batch-made input space =
-      let whole : wholeOthers l₁ ≡ wholeOthers l = ap₂ (λ (n k : ℕ). eqb (n % recordWidth) 0 && eqb (k % nameWidth) 0) same same-names in
-      rw (whole, store-made)
+  batch-made input space = rw (whole-made, store-made)
+
+  pub read-made : lentRead h₁ l₁ ≡ freshRead size l
+  unfolding lentRead freshRead
+  read-made = rw (whole-made, store-made)
 
   -- and what is laid over it is laid over l
   pub then-batch : (input area : List ℕ) (q : Report) (h₂ : Head) (l₂ : Lent) (area₂ : List ℕ) → BatchLeaves (lentBatch h₁ l₁ input (length area)) l₁ area q h₂ l₂ area₂

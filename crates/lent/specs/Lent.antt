@@ -8,6 +8,7 @@ use lib.ListN.{length, replicate}
 use Rattle.model.specs.declared.Head.{Head}
 use Rattle.model.specs.declared.Branch.{Branch}
 use Rattle.model.specs.Store.{Store, zero-branch}
+use Rattle.model.specs.Soundness.{rowsRead}
 use Rattle.model.specs.Batch.{Run, batch, ended, answeredCount, requestCount, answerCount, areaAfter}
 use Rattle.model.specs.Fresh.{freshCheck, madeFresh}
 use Rattle.rows.specs.Rows.{recordWidth, recordRowsOf, recordTable, nameWidth, nameRowsOf, nameTable}
@@ -49,6 +50,10 @@ wholeOthers l = eqb (length (l .records) % recordWidth) 0 && eqb (length (l .nam
 unfoldable pub lentBatch : Head → Lent → List ℕ → ℕ → Run
 lentBatch head l input space = cond (wholeOthers l) (batch (lentStore head l) input space) (ended (lentStore head l) 1)
 
+-- how many record rows its table checks read: none where the record or the name table is no whole number of rows
+unfoldable pub lentRead : Head → Lent → ℕ
+lentRead head l = cond (wholeOthers l) (rowsRead (lentStore head l)) 0
+
 -- what a run on what is lent reports and leaves: the stop number, the three counts, the head, all that is lent, and the answer area
 pub record BatchLeaves (run : Run) (l : Lent) (area : List ℕ) (r : Report) (head′ : Head) (l′ : Lent) (area′ : List ℕ) : Type 0 where
   pub stop : r .stop ≡ run .stop
@@ -84,3 +89,7 @@ freshStart size l = lentFresh (record { size = 0; branches = 0; records = 0; now
 -- the model's batch on that store; a record or name table that is no whole number of rows is refusal 1
 unfoldable pub freshBatch : ℕ → Lent → List ℕ → ℕ → Run
 freshBatch size l input space = cond (wholeOthers l) (batch (freshStart size l) input space) (ended (freshStart size l) 1)
+
+-- how many record rows its table checks read
+unfoldable pub freshRead : ℕ → Lent → ℕ
+freshRead size l = cond (wholeOthers l) (rowsRead (freshStart size l)) 0

@@ -8,7 +8,7 @@ ghost use Prim.Native.Nat.{_*_, _<_};
 ghost use lib.ListN.{length, getD, set, take, drop};
 ghost use Rattle.model.specs.Store.{zero-branch};
 ghost use Rattle.rows.specs.Rows.{flat, branchWidth, branchFields, branchRowsOf, BranchesIn};
-ghost use Rattle.lent.specs.Lent.{lent, lentBatch, BatchLeaves, FreshLeaves, zeroRows, freshBatch};
+ghost use Rattle.lent.specs.Lent.{lent, lentBatch, lentRead, BatchLeaves, FreshLeaves, zeroRows, freshBatch, freshRead};
 
 // As many branch rows as a store may have, and their numbers.
 const MOST_ROWS: usize = 4096;
@@ -55,12 +55,14 @@ pub fn store_rows(rows: &mut [Branch], table: &[u32])
     }
 }
 
-// What a batch reports: the stop number, the requests answered, their bytes, and the bytes of their answers.
+// What a batch reports: the stop number, the requests answered, their bytes, the bytes of their answers, and how many record rows the
+// table checks read.
 pub struct Report {
     pub stop: u32,
     pub answered: usize,
     pub taken: usize,
     pub sent: usize,
+    pub rows: usize,
 }
 
 // A head with a report.
@@ -83,9 +85,11 @@ pub fn batch_rows(
 ) -> Ended
     requires { ⌜ BranchesIn count (now table) ⌝ }
     ensures { λ r. ⌜ (drop (count * branchWidth) (now (table .exit)) ≡ drop (count * branchWidth) (now (table .entry))) × BatchLeaves (lentBatch head (lent (take count (branchRowsOf (now (table .entry)))) (now (rt .entry)) (now (pt .entry)) (now (nt .entry)) (now (slab .entry))) (now (input .entry)) (length (now (answers .entry)))) (lent (take count (branchRowsOf (now (table .entry)))) (now (rt .entry)) (now (pt .entry)) (now (nt .entry)) (now (slab .entry))) (now (answers .entry)) (r .report) (r .head) (lent (take count (branchRowsOf (now (table .exit)))) (now (rt .exit)) (now (pt .exit)) (now (nt .exit)) (now (slab .exit))) (now (answers .exit)) ⌝ }
+    ensures { λ r. ⌜ r .report .rows ≡ lentRead head (lent (take count (branchRowsOf (now (table .entry)))) (now (rt .entry)) (now (pt .entry)) (now (nt .entry)) (now (slab .entry))) ⌝ }
 {
     let end = count * rows::BRANCH_WIDTH;
-    let done = batch::batch(head, &mut table[..end], rt, pt, nt, slab, input, answers);
+    let batched = batch::batch(head, &mut table[..end], rt, pt, nt, slab, input, answers);
+    let done = batched.done;
     let after = done.head;
     Ended {
         head: after,
@@ -94,6 +98,7 @@ pub fn batch_rows(
             answered: done.answered,
             taken: done.taken,
             sent: done.sent,
+            rows: batched.rows,
         },
     }
 }
@@ -128,6 +133,7 @@ pub fn run_batch(
     answers: &mut [u8],
 ) -> Report
     ensures { λ r. ⌜ BatchLeaves (lentBatch (now (head .entry)) (lent (now (branches .entry)) (now (rt .entry)) (now (pt .entry)) (now (nt .entry)) (now (slab .entry))) (now (input .entry)) (length (now (answers .entry)))) (lent (now (branches .entry)) (now (rt .entry)) (now (pt .entry)) (now (nt .entry)) (now (slab .entry))) (now (answers .entry)) r (now (head .exit)) (lent (now (branches .exit)) (now (rt .exit)) (now (pt .exit)) (now (nt .exit)) (now (slab .exit))) (now (answers .exit)) ⌝ }
+    ensures { λ r. ⌜ r .rows ≡ lentRead (now (head .entry)) (lent (now (branches .entry)) (now (rt .entry)) (now (pt .entry)) (now (nt .entry)) (now (slab .entry))) ⌝ }
 {
     if MOST_ROWS < branches.len() {
         return Report {
@@ -135,6 +141,7 @@ pub fn run_batch(
             answered: 0,
             taken: 0,
             sent: 0,
+            rows: 0,
         };
     }
     let mut table = [0u32; MOST_NUMBERS];
@@ -189,6 +196,7 @@ pub fn fresh_batch(
     answers: &mut [u8],
 ) -> Ended
     ensures { λ r. ⌜ BatchLeaves (freshBatch size (zeroRows (now (rt .entry)) (now (pt .entry)) (now (nt .entry)) (now (slab .entry))) (now (input .entry)) (length (now (answers .entry)))) (zeroRows (now (rt .entry)) (now (pt .entry)) (now (nt .entry)) (now (slab .entry))) (now (answers .entry)) (r .report) (r .head) (lent (freshBatch size (zeroRows (now (rt .entry)) (now (pt .entry)) (now (nt .entry)) (now (slab .entry))) (now (input .entry)) (length (now (answers .entry))) .store .branchRows) (now (rt .exit)) (now (pt .exit)) (now (nt .exit)) (now (slab .exit))) (now (answers .exit)) ⌝ }
+    ensures { λ r. ⌜ r .report .rows ≡ freshRead size (zeroRows (now (rt .entry)) (now (pt .entry)) (now (nt .entry)) (now (slab .entry))) ⌝ }
 {
     let mut head = Head {
         size: 0,

@@ -8,13 +8,13 @@ use lib.Dec.{eqb}
 use lib.ListN.{length, drop, length-append, length-replicate}
 use Rattle.model.specs.declared.Branch.{Branch}
 use Rattle.model.specs.Store.{Store, zero-branch}
-use Rattle.model.specs.Soundness.{sizesAllowed}
+use Rattle.model.specs.Soundness.{sizesAllowed, rowsRead}
 use Rattle.model.specs.Fresh.{programStore, madeFresh}
 use Rattle.rows.specs.Rows.{zeros, recordWidth, recordRowsOf, nameWidth, nameRowsOf}
 use Rattle.rows.proofs.Laws.{record-count, name-count, length-zeros}
 use Rattle.lent.specs.declared.Ended.{Ended}
-use Rattle.lent.specs.Lent.{Lent, wholeOthers, lentFresh, zeroRows, freshStart, freshBatch, BatchLeaves}
-use Rattle.lent_main.specs.Session.{runOf, Replies}
+use Rattle.lent.specs.Lent.{Lent, wholeOthers, lentFresh, zeroRows, freshStart, freshBatch, freshRead, BatchLeaves}
+use Rattle.lent_main.specs.Session.{atStart, runOf, Replies}
 
 -- what the program lends
 abbrev program : Lent
@@ -33,7 +33,7 @@ made : (s : Store) → length (s .branchRows) ≡ 16 → length (s .recordRows) 
 unfolding madeFresh sizesAllowed
 made s b r p n l = rw (b, r, p, n, l)
 
-started : freshStart 64 program ≡ programStore (zeros (128 * 256))
+started : freshStart 64 program ≡ atStart
 unfolding lentFresh
 started = rw whole (made _ (length-replicate {A = Branch} 16 zero-branch) rows (length-zeros 128) named (length-zeros (128 * 256)))
 
@@ -41,13 +41,18 @@ batch-is : (input : List ℕ) (space : ℕ) → freshBatch 64 program input spac
 unfolding freshBatch
 batch-is input space = rw (whole, started)
 
--- what the batch leaves on tables of zeros is the program's reply
+read-is : freshRead 64 program ≡ rowsRead atStart
+unfolding freshRead
+read-is = rw (whole, started)
+
+-- what the batch leaves on tables of zeros, and the rows read, are the program's reply
 pub replies : {rt pt nt slab input area area′ : List ℕ} {l′ : Lent} {r : Ended} → rt ≡ zeros (128 * recordWidth) → pt ≡ zeros 128 → nt ≡ zeros (32 * nameWidth) → slab ≡ zeros (128 * 256)
-    → BatchLeaves (freshBatch 64 (zeroRows rt pt nt slab) input (length area)) (zeroRows rt pt nt slab) area (r .report) (r .head) l′ area′ → Replies input area r area′
+    → BatchLeaves (freshBatch 64 (zeroRows rt pt nt slab) input (length area)) (zeroRows rt pt nt slab) area (r .report) (r .head) l′ area′ × (r .report .rows ≡ freshRead 64 (zeroRows rt pt nt slab)) → Replies input area r area′
 replies {rt} {pt} {nt} {slab} {input} {area} {area′} {l′} {r} er ep en es l =
-    let z : BatchLeaves (freshBatch 64 program input (length area)) program area (r .report) (r .head) l′ area′ = rw (er, ep, en, es) at l in
-    let w = rw (batch-is input (length area)) at z in
-    record { stop = w .stop; answered = w .answered; taken = w .taken; sent = w .sent; head = w .head; answers = w .answers }
+    let z : BatchLeaves (freshBatch 64 program input (length area)) program area (r .report) (r .head) l′ area′ × (r .report .rows ≡ freshRead 64 program) = rw (er, ep, en, es) at l in
+    let leaves = z .0 in
+    let w = rw (batch-is input (length area)) at leaves in
+    record { stop = w .stop; answered = w .answered; taken = w .taken; sent = w .sent; rows = z .1 ∙ read-is; head = w .head; answers = w .answers }
 
 -- the answers stand in the answer area
 pub sent-within : {input area area′ : List ℕ} {r : Ended} → Replies input area r area′ → r .report .sent ≤ length area′

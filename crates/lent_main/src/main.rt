@@ -75,6 +75,7 @@ fn main() {
     line(b"answered ", report.answered as u64);
     line(b"taken ", report.taken as u64);
     line(b"sent ", report.sent as u64);
+    line(b"rows read ", report.rows as u64);
     line(b"branches ", head.branches as u64);
     line(b"records ", head.records as u64);
     line(b"now ", head.now as u64);

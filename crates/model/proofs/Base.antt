@@ -41,6 +41,9 @@ same-test true b f g = sym (f refl)
 same-test false true f g = g refl
 same-test false false f g = refl
 
+pub no-test : {b : Bool} → (b ≡ true → ⊥) → false ≡ b
+no-test {b} h = same-test false b (λ e. absurd (false≢true e)) (λ e. absurd (h e))
+
 -- what passes two tests
 abbrev pub passes : {A : Type 0} → (A → Bool) → (A → Bool) → A → Bool
 passes k l x = k x && l x

@@ -12,11 +12,11 @@ use Rattle.model.specs.declared.Branch.{Branch}
 use Rattle.model.specs.declared.Record.{Record}
 use Rattle.model.specs.Store.{Store, newest, records, names, any, open-end, _∈_}
 use Rattle.model.specs.Lookup.{holds}
-use Rattle.model.specs.Soundness.{sizesAllowed, lentAllowed, between, inRange, chained, openRow, branchesSound, namesSound, rowsSound, precedes, ascending, placed, used, recordsSound, tableCheck}
+use Rattle.model.specs.Soundness.{sizesAllowed, lentAllowed, between, inRange, chained, openRow, branchesSound, namesSound, rowsSound, precedes, ascending, byItself, placed, used, recordsSound, tableCheck}
 use Rattle.model.proofs.Base.{case, and→, or→}
 use Rattle.model.proofs.Latest.{precedes-trans}
 use Rattle.model.proofs.Names.{names→}
-use Rattle.model.specs.ByNumber.{Asc, Chain, SoundRows, Named, Allowed, Sizes, Fits, Sound}
+use Rattle.model.specs.ByNumber.{Asc, Chain, SoundRows, Named, Allowed, Sizes, Fits, ByItself, Sound}
 
 pub chained→ : (floor : ℕ) (bs : List Branch) → chained floor bs ≡ true → Chain floor bs
 unfolding chained
@@ -60,36 +60,34 @@ ascending→ (r ∷ q ∷ rs) e =
     let ih : Asc (q ∷ rs) = ascending→ (q ∷ rs) (p .1) in
     (λ x m. elim m [ inl d ↦ rw d (p .0) | inr n ↦ precedes-trans r q x (p .0) (ih .0 x n) ], ih)
 
-pub record PlacedRow (s : Store) (i : ℕ) (r : Record) (rs : List Record) : Type 0 where
-  pub fits : Fits (s .head .size) (s .head .now) (newest s) r
-  pub inside : ltb (r .place) (length (s .placeRows)) ≡ true
-  pub named : eqb (getD (s .placeRows) (r .place) 0) i ≡ true
-  pub rest : placed s (suc i) rs ≡ true
-
-pub placed-row : (s : Store) (i : ℕ) (r : Record) (rs : List Record) → placed s i (r ∷ rs) ≡ true → PlacedRow s i r rs
-unfolding placed
-placed-row s i r rs e =
+pub itself→ : (s : Store) (i : ℕ) (r : Record) → byItself s i r ≡ true → ByItself s i r
+unfolding byItself
+itself→ s i r e =
     let a : (ltb (r .address) (s .head .size) ≡ true) × (_ ≡ true) = and→ _ _ e in
     let b : (leb (r .moment) (s .head .now) ≡ true) × (_ ≡ true) = and→ _ _ (a .1) in
     let c : (any (λ d. holds d (r .moment)) (newest s) ≡ true) × (_ ≡ true) = and→ _ _ (b .1) in
-    let d : (ltb (r .place) (length (s .placeRows)) ≡ true) × (_ ≡ true) = and→ _ _ (c .1) in
-    let f : (eqb (getD (s .placeRows) (r .place) 0) i ≡ true) × (placed s (suc i) rs ≡ true) = and→ _ _ (d .1) in
+    let d : (ltb (r .place) (length (s .placeRows)) ≡ true) × (eqb (getD (s .placeRows) (r .place) 0) i ≡ true) = and→ _ _ (c .1) in
     record {
       fits = record { address = ltb-true _ _ (a .0); moment = leb-true _ _ (b .0); held = c .0 };
-      inside = d .0;
-      named = f .0;
-      rest = f .1;
+      inside = ltb-true _ _ (d .0);
+      named = eqb-true _ _ (d .1);
     }
+
+placed-row : (s : Store) (i : ℕ) (r : Record) (rs : List Record) → placed s i (r ∷ rs) ≡ true → ByItself s i r × (placed s (suc i) rs ≡ true)
+unfolding placed
+placed-row s i r rs e =
+    let a : (byItself s i r ≡ true) × (placed s (suc i) rs ≡ true) = and→ _ _ e in
+    (itself→ s i r (a .0), a .1)
 
 pub placed→named : (s : Store) (i : ℕ) (rs : List Record) → placed s i rs ≡ true → Named (s .placeRows) i rs
 placed→named s i [] e = tt
 placed→named s i (r ∷ rs) e =
-    let p : PlacedRow s i r rs = placed-row s i r rs e in
-    (ltb-true _ _ (p .inside), eqb-true _ _ (p .named), placed→named s (suc i) rs (p .rest))
+    let p : ByItself s i r × (placed s (suc i) rs ≡ true) = placed-row s i r rs e in
+    (p .0 .inside, p .0 .named, placed→named s (suc i) rs (p .1))
 
 pub placed→fits : (s : Store) (i : ℕ) (rs : List Record) → placed s i rs ≡ true → (r : Record) → r ∈ rs → Fits (s .head .size) (s .head .now) (newest s) r
-placed→fits s i (q ∷ rs) e r (inl d) = rw d (placed-row s i q rs e .fits)
-placed→fits s i (q ∷ rs) e r (inr m) = placed→fits s (suc i) rs (placed-row s i q rs e .rest) r m
+placed→fits s i (q ∷ rs) e r (inl d) = rw d (placed-row s i q rs e .0 .fits)
+placed→fits s i (q ∷ rs) e r (inr m) = placed→fits s (suc i) rs (placed-row s i q rs e .1) r m
 
 pub between→ : (lo hi n : ℕ) → between lo hi n ≡ true → (lo ≤ n) × (n ≤ hi)
 between→ lo hi n e =

@@ -11,11 +11,11 @@ use Rattle.model.specs.declared.Branch.{Branch}
 use Rattle.model.specs.declared.Record.{Record}
 use Rattle.model.specs.Store.{Store, branches, newest, records, names, open-end, foundPage, _∈_}
 use Rattle.model.specs.Lookup.{lookup, readable}
-use Rattle.model.specs.Soundness.{between, sizesAllowed, inRange, chained, openRow, branchesSound, namesSound, rowsSound, ascending, placed, used, recordsSound, tableCheck}
+use Rattle.model.specs.Soundness.{between, sizesAllowed, inRange, chained, openRow, branchesSound, namesSound, rowsSound, ascending, byItself, placed, used, recordsSound, tableCheck}
 use Rattle.model.specs.Reference.{Snapshot, Reference}
 use Rattle.model.proofs.Base.{case, →and, →or₂}
 use Rattle.model.specs.Demand3.{key}
-use Rattle.model.specs.ByNumber.{Asc, Link, Chain, SoundRows, Named, Allowed, Sizes, Fits, Sound}
+use Rattle.model.specs.ByNumber.{Asc, Link, Chain, SoundRows, Named, Allowed, Sizes, Fits, ByItself, Sound}
 use Rattle.model.proofs.Names.{→names}
 
 -- such a store passes the table checks
@@ -46,17 +46,20 @@ unfolding ascending
 →ascending (r ∷ []) h = refl
 →ascending (r ∷ q ∷ rs) h = →and (h .0 q (inl refl)) (→ascending (q ∷ rs) (h .1))
 
+pub →itself : (s : Store) (i : ℕ) (r : Record) → ByItself s i r → byItself s i r ≡ true
+unfolding byItself
+→itself s i r h =
+    →and (lt-ltb (r .address) (s .head .size) (h .fits .address))
+    (→and (le-leb (r .moment) (s .head .now) (h .fits .moment))
+    (→and (h .fits .held)
+    (→and (lt-ltb (r .place) (length (s .placeRows)) (h .inside)) (eq-eqb (getD (s .placeRows) (r .place) 0) i (h .named)))))
+
 pub →placed : (s : Store) (i : ℕ) (rs : List Record) → ((r : Record) → r ∈ rs → Fits (s .head .size) (s .head .now) (newest s) r)
     → Named (s .placeRows) i rs → placed s i rs ≡ true
 unfolding placed
 →placed s i [] f n = refl
 →placed s i (r ∷ rs) f n =
-    let g : Fits (s .head .size) (s .head .now) (newest s) r = f r (inl refl) in
-    →and (lt-ltb (r .address) (s .head .size) (g .address))
-    (→and (le-leb (r .moment) (s .head .now) (g .moment))
-    (→and (g .held)
-    (→and (lt-ltb (r .place) (length (s .placeRows)) (n .0))
-    (→and (eq-eqb (getD (s .placeRows) (r .place) 0) i (n .1)) (→placed s (suc i) rs (λ q m. f q (inr m)) (n .2))))))
+    →and (→itself s i r (record { fits = f r (inl refl); inside = n .0; named = n .1 })) (→placed s (suc i) rs (λ q m. f q (inr m)) (n .2))
 
 pub →between : (lo hi n : ℕ) → lo ≤ n → n ≤ hi → between lo hi n ≡ true
 →between lo hi n l h = →and (le-leb lo n l) (le-leb n hi h)

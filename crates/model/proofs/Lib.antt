@@ -28,5 +28,6 @@ pub mod Demand3
 pub mod Copies
 pub mod Putting
 pub mod Commissioned
+pub mod RowsRead
 pub mod Removal
 pub mod Again

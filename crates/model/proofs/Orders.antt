@@ -3,7 +3,9 @@ use Prim.Native.Nat.{ℕ, _≤_, _<_}
 use mathlib.Core.Path.{_≡_}
 use mathlib.Core.List.{List}
 use mathlib.Core.Option.{none}
-use mathlib.Core.Bool.{true, false}
+use mathlib.Core.Logic.{_⊎_, inl, inr, ⊎-elim}
+use mathlib.Core.Bool.{true, false, _&&_}
+use native.Mathlib.Omega.{arith}
 use borrow.Author.Tests.{lt-ltb, le-ltb, le-leb, lt-leb}
 use lib.ListN.{length}
 use Rattle.model.specs.declared.Name.{Name}
@@ -12,7 +14,7 @@ use Rattle.model.specs.Lookup.{readable}
 use Rattle.model.specs.Soundness.{inRange, rowsSound, recordsSound, tableCheck}
 use Rattle.model.specs.Wire.{refused}
 use Rattle.model.specs.Step.{standing, firstFree, doWrite, doMark, doRevert, doRead, doReclaim, doGive, doWithdraw}
-use Rattle.model.proofs.Base.{readable-named, not-readable}
+use Rattle.model.proofs.Base.{case, →and, readable-named, not-readable}
 
 -- the table checks: 1, 2, 3
 module _ (s : Store) where
@@ -27,6 +29,23 @@ module _ (s : Store) where
   pub check-3 : inRange s ≡ true → rowsSound s ≡ true → recordsSound s ≡ false → tableCheck s ≡ 3
   unfolding tableCheck
   check-3 a b c = rw (a, b, c)
+
+  -- how they end: by 1 or 2, by 3, or with none
+  pub check-cases : {C : Type 0} → ((inRange s && rowsSound s) ≡ false → (tableCheck s ≡ 1) ⊎ (tableCheck s ≡ 2) → C)
+      → ((inRange s && rowsSound s) ≡ true → recordsSound s ≡ false → tableCheck s ≡ 3 → C)
+      → ((inRange s && rowsSound s) ≡ true → recordsSound s ≡ true → tableCheck s ≡ 0 → C) → C
+  unfolding tableCheck
+  check-cases f g h =
+      case (inRange s)
+      (λ a.
+      case (rowsSound s)
+      (λ b. case (recordsSound s) (λ c. h (→and a b) c (rw (a, b, c))) (λ c. g (→and a b) c (rw (a, b, c))))
+      (λ b. f (rw (a, b)) (inr (rw (a, b)))))
+      (λ a. f (rw a) (inl (rw a)))
+
+  pub check-most : tableCheck s ≤ 3
+  check-most =
+      check-cases (λ _ o. ⊎-elim (λ e. omega (arith, e)) (λ e. omega (arith, e)) o) (λ _ _ e. omega (arith, e)) (λ _ _ e. omega (arith, e))
 
 -- 8 is met below the floor, at a moment that is not named; a named one is readable
 pub below-8 : (s : Store) (m : ℕ) → m < s .head .floor → (m ∈ moments (names s) → ⊥) → readable s m ≡ false

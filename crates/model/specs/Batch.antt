@@ -22,7 +22,7 @@ pub record Run : Type 0 where
   pub taken : ℕ
   pub out : List ℕ
 
--- the three counts that a batch reports
+-- three of the counts that a batch reports; the fourth is rowsRead of the store that it is given
 abbrev pub answeredCount : Run → ℕ
 answeredCount r = length (r .log)
 

@@ -137,6 +137,12 @@ pub record Fits (size now : ℕ) (bs : List Branch) (r : Record) : Type 0 where
   pub moment : r .moment ≤ now
   pub held : any (λ b. holds b (r .moment)) bs ≡ true
 
+-- a record by itself, in row i, counted from 1: its place row names it
+pub record ByItself (s : Store) (i : ℕ) (r : Record) : Type 0 where
+  pub fits : Fits (s .head .size) (s .head .now) (newest s) r
+  pub inside : r .place < length (s .placeRows)
+  pub named : getD (s .placeRows) (r .place) 0 ≡ i
+
 -- a named moment is below now and inside a row
 pub record NameFits (now : ℕ) (bs : List Branch) (n : Name) : Type 0 where
   pub below : n .moment < now

@@ -7,6 +7,7 @@ pub mod Fresh
 pub mod Batch
 pub mod Reference
 pub mod ByNumber
+pub mod RowsRead
 pub mod Demand3
 pub mod Packed
 pub mod Commissioned

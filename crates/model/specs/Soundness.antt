@@ -1,6 +1,7 @@
 -- Sound tables: table checks 1, 2 and 3, in this order.
 use Prim.Native.Nat.{ℕ, suc, _+_, _*_}
 use mathlib.Core.List.{List, [], _∷_}
+use mathlib.Core.Option.{Option, some, none}
 use mathlib.Core.Bool.{Bool, true, false, cond, _&&_, _||_, not}
 use lib.Dec.{leb, ltb, eqb}
 use lib.ListN.{length, getD}
@@ -71,13 +72,17 @@ ascending [] = true
 ascending (r ∷ []) = true
 ascending (r ∷ q ∷ rs) = precedes r q && ascending (q ∷ rs)
 
--- each record by itself: address below A, moment at most now and inside a counted branch row, place inside the place table,
+-- a record by itself: address below A, moment at most now and inside a counted branch row, place inside the place table,
 -- and that place row names the record; i is its row, counted from 1
+unfoldable pub byItself : Store → ℕ → Record → Bool
+byItself s i r =
+    ltb (r .address) (s .head .size) && (leb (r .moment) (s .head .now) && (any (λ b. holds b (r .moment)) (newest s)
+    && (ltb (r .place) (length (s .placeRows)) && eqb (getD (s .placeRows) (r .place) 0) i)))
+
+-- each record by itself, from row i on
 unfoldable pub placed : Store → ℕ → List Record → Bool
 placed s i [] = true
-placed s i (r ∷ rs) =
-    ltb (r .address) (s .head .size) && (leb (r .moment) (s .head .now) && (any (λ b. holds b (r .moment)) (newest s)
-    && (ltb (r .place) (length (s .placeRows)) && (eqb (getD (s .placeRows) (r .place) 0) i && placed s (suc i) rs))))
+placed s i (r ∷ rs) = byItself s i r && placed s (suc i) rs
 
 -- a place row is in use unless it is 0
 abbrev pub inUse : ℕ → Bool
@@ -94,3 +99,17 @@ recordsSound s = ascending (records s) && (placed s 1 (records s) && eqb (used (
 -- the refusal of the table checks, 0 where there is none
 unfoldable pub tableCheck : Store → ℕ
 tableCheck s = cond (inRange s) (cond (rowsSound s) (cond (recordsSound s) 0 3) 2) 1
+
+-- a record against the row before it, where there is one
+unfoldable pub inOrder : Option Record → Record → Bool
+inOrder none r = true
+inOrder (some q) r = precedes q r
+
+-- the rows read, from row i on: up to and including the first that breaks a rule by itself or against the row before, else all
+unfoldable pub readFrom : Store → ℕ → Option Record → List Record → ℕ
+readFrom s i before [] = 0
+readFrom s i before (r ∷ rs) = suc (cond (inOrder before r && byItself s i r) (readFrom s (suc i) (some r) rs) 0)
+
+-- how many record rows the table checks read: none where 1 or 2 refuses
+unfoldable pub rowsRead : Store → ℕ
+rowsRead s = cond (inRange s && rowsSound s) (readFrom s 1 none (records s)) 0

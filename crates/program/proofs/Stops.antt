@@ -6,23 +6,14 @@ use native.Mathlib.Omega.{arith}
 use lib.Dec.{ltb}
 use lib.ListN.{length, drop}
 use Rattle.model.specs.Store.{Store}
-use Rattle.model.specs.Soundness.{inRange, rowsSound, recordsSound, tableCheck}
+use Rattle.model.specs.Soundness.{tableCheck}
 use Rattle.model.specs.Wire.{stop, parse, answerBytes}
 use Rattle.model.specs.Step.{step}
 use Rattle.model.specs.Batch.{run, batch}
+use Rattle.model.proofs.Orders.{check-most}
 use Rattle.model.proofs.Base.{case}
 use Rattle.model.proofs.Parsing.{Reads, parse-reads, caseParsed}
 use Rattle.model.proofs.Running.{run-end, run-stop, run-full, run-one, batch-run, batch-refused}
-
-check-small : (s : Store) → tableCheck s ≤ 3
-unfolding tableCheck
-check-small s =
-    case (inRange s)
-    (λ a.
-    case (rowsSound s)
-    (λ b. case (recordsSound s) (λ c. rw (a, b, c) (omega arith)) (λ c. rw (a, b, c) (omega arith)))
-    (λ b. rw (a, b) (omega arith)))
-    (λ a. rw a (omega arith))
 
 run-small : (fuel : ℕ) (s : Store) (input : List ℕ) (space : ℕ) → run fuel s input space .stop ≤ 14
 unfolding run
@@ -43,4 +34,4 @@ batch-small s input space = by-check (tableCheck s) refl
   where
     by-check : (n : ℕ) → tableCheck s ≡ n → batch s input space .stop ≤ 14
     by-check zero e = rw (batch-run s input space e) (run-small (suc (length input)) s input space)
-    by-check (suc n) e = rw (batch-refused s input space (suc n) e (λ z. omega arith)) (omega (arith, check-small s))
+    by-check (suc n) e = rw (batch-refused s input space (suc n) e (λ z. omega arith)) (omega (arith, check-most s))

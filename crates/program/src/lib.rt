@@ -71,7 +71,7 @@ fn serve_fresh(
     };
     let made = fresh::make(none, 64, bt, rt, pt, nt, slab);
     let head = made.head;
-    batch::batch(head, bt, rt, pt, nt, slab, input, answers)
+    batch::batch(head, bt, rt, pt, nt, slab, input, answers).done
 }
 
 // What goes out: how many bytes the answers have, and the stop number.

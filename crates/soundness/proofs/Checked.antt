@@ -6,7 +6,7 @@ use native.Mathlib.Omega.{arith}
 use lib.ListN.{length}
 use Rattle.model.specs.declared.Head.{Head}
 use Rattle.model.specs.Store.{Store, newest, names, open-end}
-use Rattle.model.specs.Soundness.{sizesAllowed, inRange, branchesSound, namesSound, rowsSound, recordsSound, tableCheck}
+use Rattle.model.specs.Soundness.{sizesAllowed, inRange, branchesSound, namesSound, rowsSound, tableCheck, rowsRead}
 use Rattle.model.proofs.Base.{case, and→}
 use Rattle.model.proofs.Invariant.{sound-check}
 use Rattle.model.specs.ByNumber.{Sound}
@@ -14,7 +14,8 @@ use Rattle.model.proofs.Checked.{check-sound}
 use Rattle.rows.specs.Rows.{branchRowsOf, recordRowsOf, nameRowsOf}
 use Rattle.rows.specs.View.{Tables, storeOf}
 use Rattle.rows.proofs.Laws.{branch-count, record-count, name-count}
-use Rattle.soundness.specs.Check.{wholeTables, allowedOf, allowedIn, checkOf}
+use Rattle.soundness.specs.Check.{wholeTables, allowedOf, allowedIn, checkOf, readOf, findingOf}
+use Rattle.record_check.specs.Found.{recordsFound}
 use Rattle.soundness.proofs.Sizes.{WholeRows, whole→, →whole}
 
 module _ (head : Head) (t : Tables) where
@@ -22,8 +23,8 @@ module _ (head : Head) (t : Tables) where
   S = storeOf head t
 
   -- the checks in their order
-  pub check-one : (wholeTables t && inRange S) ≡ false → 1 ≡ checkOf head t
-  unfolding checkOf tableCheck
+  pub check-one : (wholeTables t && inRange S) ≡ false → record { refusal = 1; rows = 0 } ≡ findingOf head t
+  unfolding checkOf readOf tableCheck rowsRead
   check-one e =
       case (wholeTables t)
       (λ w. let z : inRange S ≡ false = rw w at e in rw (w, z))
@@ -33,25 +34,21 @@ module _ (head : Head) (t : Tables) where
     both : (wholeTables t ≡ true) × (inRange S ≡ true)
     both = and→ _ _ ranges
 
-    pub check-two : branchesSound S ≡ false → 2 ≡ checkOf head t
-    unfolding checkOf tableCheck rowsSound
+    pub check-two : branchesSound S ≡ false → record { refusal = 2; rows = 0 } ≡ findingOf head t
+    unfolding checkOf readOf tableCheck rowsRead rowsSound
     check-two e = rw (both .0, both .1, e)
 
     module _ (b : branchesSound S ≡ true) where
       abbrev Named : Bool → Type 0
       Named x = namesSound (head .now) (newest S) (names S) ≡ x
 
-      pub check-names : Named false → 2 ≡ checkOf head t
-      unfolding checkOf tableCheck rowsSound
+      pub check-names : Named false → record { refusal = 2; rows = 0 } ≡ findingOf head t
+      unfolding checkOf readOf tableCheck rowsRead rowsSound
       check-names n = rw (both .0, both .1, b, n)
 
-      pub check-three : Named true → recordsSound S ≡ false → 3 ≡ checkOf head t
-      unfolding checkOf tableCheck rowsSound
-      check-three n e = rw (both .0, both .1, b, n, e)
-
-      pub check-none : Named true → recordsSound S ≡ true → 0 ≡ checkOf head t
-      unfolding checkOf tableCheck rowsSound
-      check-none n e = rw (both .0, both .1, b, n, e)
+      pub check-three : Named true → recordsFound S ≡ findingOf head t
+      unfolding checkOf readOf tableCheck rowsRead rowsSound
+      check-three n = rw (both .0, both .1, b, n)
 
   -- what is lent and passes the checks is whole rows and sound; now is a number of 32 bits
   passed : checkOf head t ≡ 0 → (wholeTables t ≡ true) × (tableCheck S ≡ 0)

@@ -1,8 +1,4 @@
-pub mod Tests
-pub mod Search
 pub mod Branches
 pub mod Names
-pub mod Records
-pub mod Used
 pub mod Sizes
 pub mod Checked

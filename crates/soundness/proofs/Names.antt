@@ -12,8 +12,7 @@ use Rattle.model.specs.declared.Name.{Name}
 use Rattle.model.specs.Store.{isCalled, any}
 use Rattle.model.specs.Lookup.{holds}
 use Rattle.model.specs.Soundness.{namesSound}
-use Rattle.model.proofs.Base.{case, and→}
-use Rattle.soundness.proofs.Tests.{refused}
+use Rattle.model.proofs.Base.{case, and→, no-test}
 
 module _ (now : ℕ) (bs : List Branch) where
   abbrev Named : List Name → Type 0
@@ -39,7 +38,7 @@ module _ (now : ℕ) (bs : List Branch) where
   -- a row and those after it, by the tests
   module _ (ns : List Name) (x : Name) (rest : List Name) (e : ns ≡ x ∷ rest) where
     pub name-late : now ≤ x .moment → false ≡ namesSound now bs ns
-    name-late l = refused (λ z. let z′ : Named (x ∷ rest) = rw e at z in omega (arith, ltb-true (x .moment) now (first x rest z′ .0)))
+    name-late l = no-test (λ z. let z′ : Named (x ∷ rest) = rw e at z in omega (arith, ltb-true (x .moment) now (first x rest z′ .0)))
 
     pub name-twice : any (isCalled (x .high) (x .low)) rest ≡ true → false ≡ namesSound now bs ns
     unfolding namesSound

@@ -9,7 +9,7 @@ use borrow.Author.Tests.{eqb-true, eq-eqb}
 use Rattle.model.specs.declared.Head.{Head}
 use Rattle.model.specs.Store.{Store, open-end}
 use Rattle.model.specs.Soundness.{sizesAllowed, inRange}
-use Rattle.model.proofs.Base.{and→, →and}
+use Rattle.model.proofs.Base.{and→, →and, no-test}
 use Rattle.model.proofs.Invariant.{→sizes, →inRange}
 use Rattle.model.specs.ByNumber.{Allowed, Sizes}
 use Rattle.model.proofs.Checked.{sizes→, inRange→}
@@ -17,7 +17,6 @@ use Rattle.rows.specs.View.{Tables, storeOf}
 use Rattle.rows.specs.Rows.{branchWidth, recordWidth, nameWidth}
 use Rattle.rows.proofs.Laws.{branch-count, record-count, name-count}
 use Rattle.soundness.specs.Check.{wholeRows, wholeTables, allowedOf}
-use Rattle.soundness.proofs.Tests.{refused}
 
 -- the lengths that are allowed, as statements
 pub record Lengths (size lb lr lp ln ls : ℕ) : Type 0 where
@@ -40,7 +39,7 @@ module _ {size lb lr lp ln ls : ℕ} where
   →lengths z = →and (→and (eq-eqb _ _ (z .branches)) (→and (eq-eqb _ _ (z .records)) (eq-eqb _ _ (z .names)))) (→sizes size (lb / branchWidth) (lr / recordWidth) lp (ln / nameWidth) ls (z .allowed))
 
   pub lengths-no : (Lengths size lb lr lp ln ls → ⊥) → false ≡ allowedOf size lb lr lp ln ls
-  lengths-no h = refused (λ e. h (lengths→ e))
+  lengths-no h = no-test (λ e. h (lengths→ e))
 
 -- the three tables of rows are whole numbers of rows long, so that their rows are all that they hold
 pub record WholeRows (t : Tables) : Type 0 where
@@ -103,4 +102,4 @@ module _ (head : Head) (t : Tables) (high : head .now ≤ open-end) where
       }))
 
   pub ranges-no : (Ranges head t → ⊥) → false ≡ (wholeTables t && inRange S)
-  ranges-no h = refused (λ e. h (ranges→ e))
+  ranges-no h = no-test (λ e. h (ranges→ e))

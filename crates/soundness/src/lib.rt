@@ -1,45 +1,19 @@
 // The table checks 1, 2 and 3.
 use model::Head;
 use model::OPEN_END;
+use record_check::Finding;
 use rows::BRANCH_WIDTH;
 use rows::NAME_WIDTH;
 use rows::RECORD_WIDTH;
 ghost use mathlib.Core.Path.{_≡_};
-ghost use mathlib.Core.List.{_∷_, []};
 ghost use mathlib.Core.Bool.{true, _&&_};
 ghost use Prim.Native.Nat.{suc, _-_, _≤_, _<_};
-ghost use lib.ListN.{length, take, drop};
-ghost use Rattle.model.specs.Soundness.{chained, precedes, placed, used, inRange, branchesSound, namesSound, recordsSound};
-ghost use Rattle.model.specs.ByNumber.{newestOf, held, entry, Stairs};
-ghost use Rattle.rows.specs.Rows.{branchRowsOf, recordRowsOf, nameRowsOf, BranchesIn, RecordsIn, NamesIn};
-ghost use Rattle.rows.specs.View.{Tables, tables, withBranches, withRecords, withPlaces, storeOf};
-ghost use Rattle.soundness.specs.Check.{wholeTables, allowedOf, checkOf};
-
-// Whether one of the first n branches holds the moment t: the first that ends at t or later is the only one that can.
-fn held_in(bt: &[u32], n: usize, t: u32) -> bool
-    requires { ⌜ BranchesIn n (now bt) ⌝ }
-    requires { ⌜ Stairs (branchRowsOf (now bt)) n ⌝ }
-    ensures { λ r. ⌜ r ≡ held (branchRowsOf (now (bt .entry))) n t ⌝ }
-{
-    let mut lo: usize = 0;
-    let mut hi = n;
-    while lo < hi {
-        let mid = lo + (hi - lo) / 2;
-        let b = rows::branch_at(bt, mid);
-        if b.end < t {
-            lo = mid + 1;
-        } else {
-            hi = mid;
-        }
-    }
-    if lo < n {
-        let b = rows::branch_at(bt, lo);
-        if b.start <= t {
-            return true;
-        }
-    }
-    false
-}
+ghost use lib.ListN.{take, drop};
+ghost use Rattle.model.specs.Soundness.{chained, inRange, branchesSound, namesSound};
+ghost use Rattle.model.specs.ByNumber.{newestOf};
+ghost use Rattle.rows.specs.Rows.{branchRowsOf, nameRowsOf, BranchesIn, NamesIn};
+ghost use Rattle.rows.specs.View.{Tables, tables, withBranches, storeOf};
+ghost use Rattle.soundness.specs.Check.{wholeTables, allowedOf, findingOf};
 
 // Whether the branch i, which is not the first, goes on the chain of those before it.
 fn linked(bt: &[u32], i: usize, floor: u32) -> bool
@@ -60,7 +34,7 @@ fn linked(bt: &[u32], i: usize, floor: u32) -> bool
             return false;
         }
     }
-    held_in(bt, i, b.cut)
+    holding::held_in(bt, i, floor, b.cut)
 }
 
 // Check 2 of the branches, in one pass over the counted ones.
@@ -97,7 +71,7 @@ fn branches_sound(head: Head, bt: &[u32]) -> bool
 // Whether the name i is sound, where those after it are.
 fn name_sound(head: Head, bt: &[u32], nt: &[u32], i: usize) -> bool
     requires { ⌜ BranchesIn (head .branches) (now bt) × NamesIn (head .names) (now nt) × (i < head .names) ⌝ }
-    requires { ⌜ Stairs (branchRowsOf (now bt)) (head .branches) ⌝ }
+    requires { ⌜ chained (head .floor) (newestOf (branchRowsOf (now bt)) (head .branches)) ≡ true ⌝ }
     requires { ⌜ namesSound (head .now) (newestOf (branchRowsOf (now bt)) (head .branches)) (drop (suc i) (take (head .names) (nameRowsOf (now nt)))) ≡ true ⌝ }
     ensures { λ r. ⌜ r ≡ namesSound (head .now) (newestOf (branchRowsOf (now (bt .entry))) (head .branches)) (drop i (take (head .names) (nameRowsOf (now (nt .entry))))) ⌝ }
 {
@@ -109,13 +83,13 @@ fn name_sound(head: Head, bt: &[u32], nt: &[u32], i: usize) -> bool
     if twice {
         return false;
     }
-    held_in(bt, head.branches as usize, x.moment)
+    holding::held_in(bt, head.branches as usize, head.floor, x.moment)
 }
 
 // Check 2 of the names, from the last to the first.
 fn names_sound(head: Head, bt: &[u32], nt: &[u32]) -> bool
     requires { ⌜ BranchesIn (head .branches) (now bt) × NamesIn (head .names) (now nt) ⌝ }
-    requires { ⌜ Stairs (branchRowsOf (now bt)) (head .branches) ⌝ }
+    requires { ⌜ chained (head .floor) (newestOf (branchRowsOf (now bt)) (head .branches)) ≡ true ⌝ }
     ensures { λ r. ⌜ r ≡ namesSound (head .now) (newestOf (branchRowsOf (now (bt .entry))) (head .branches)) (take (head .names) (nameRowsOf (now (nt .entry)))) ⌝ }
 {
     let mut i = head.names as usize;
@@ -125,92 +99,6 @@ fn names_sound(head: Head, bt: &[u32], nt: &[u32]) -> bool
             return false;
         }
         i -= 1;
-    }
-    true
-}
-
-// Whether the record i stands after the one before it.
-fn after(rt: &[u32], i: usize) -> bool
-    requires { ⌜ (0 < i) × RecordsIn (suc i) (now rt) ⌝ }
-    ensures { λ r. ⌜ r ≡ precedes (entry (recordRowsOf (now (rt .entry))) (i - 1)) (entry (recordRowsOf (now (rt .entry))) i) ⌝ }
-{
-    let q = rows::record_at(rt, i - 1);
-    let r = rows::record_at(rt, i);
-    if q.address < r.address {
-        return true;
-    }
-    if q.address != r.address {
-        return false;
-    }
-    if q.moment < r.moment {
-        return true;
-    }
-    false
-}
-
-// Whether the record i is sound by itself.
-fn record_placed(head: Head, bt: &[u32], rt: &[u32], pt: &[u32], i: usize) -> bool
-    requires { ⌜ BranchesIn (head .branches) (now bt) × RecordsIn (suc i) (now rt) ⌝ }
-    requires { ⌜ Stairs (branchRowsOf (now bt)) (head .branches) ⌝ }
-    ensures { λ r. ⌜ ((t : Tables) → r ≡ placed (storeOf head (withPlaces (now (pt .entry)) (withRecords (now (rt .entry)) (withBranches (now (bt .entry)) t)))) (suc i) (entry (recordRowsOf (now (rt .entry))) i ∷ [])) ⌝ }
-{
-    let r = rows::record_at(rt, i);
-    if head.size <= r.address {
-        return false;
-    }
-    if head.now < r.moment {
-        return false;
-    }
-    let p = r.place as usize;
-    if pt.len() <= p {
-        return false;
-    }
-    let k = pt[p] as usize;
-    if k != i + 1 {
-        return false;
-    }
-    held_in(bt, head.branches as usize, r.moment)
-}
-
-// How many place rows are in use.
-fn in_use(pt: &[u32]) -> usize
-    ensures { λ r. ⌜ r ≡ used (now (pt .entry)) ⌝ }
-{
-    let mut n: usize = 0;
-    let mut i: usize = 0;
-    while i < pt.len() {
-        if pt[i] != 0 {
-            n += 1;
-        }
-        i += 1;
-    }
-    n
-}
-
-// Check 3, in one pass over the counted records and one over the places.
-fn records_sound(head: Head, bt: &[u32], rt: &[u32], pt: &[u32]) -> bool
-    requires { ⌜ BranchesIn (head .branches) (now bt) × RecordsIn (head .records) (now rt) ⌝ }
-    requires { ⌜ Stairs (branchRowsOf (now bt)) (head .branches) ⌝ }
-    ensures { λ r. ⌜ ((t : Tables) → r ≡ recordsSound (storeOf head (withPlaces (now (pt .entry)) (withRecords (now (rt .entry)) (withBranches (now (bt .entry)) t))))) ⌝ }
-{
-    let n = head.records as usize;
-    let mut i: usize = 0;
-    while i < n {
-        if 0 < i {
-            let up = after(rt, i);
-            if !up {
-                return false;
-            }
-        }
-        let ok = record_placed(head, bt, rt, pt, i);
-        if !ok {
-            return false;
-        }
-        i += 1;
-    }
-    let u = in_use(pt);
-    if u != n {
-        return false;
     }
     true
 }
@@ -293,25 +181,30 @@ fn in_range(head: Head, bt: &[u32], rt: &[u32], pt: &[u32], nt: &[u32], slab: &[
     true
 }
 
-// The table checks, in their order: 0, or the number of the first that refuses.
-pub fn check(head: Head, bt: &[u32], rt: &[u32], pt: &[u32], nt: &[u32], slab: &[u8]) -> u32
-    ensures { λ r. ⌜ r ≡ checkOf head (tables (now (bt .entry)) (now (rt .entry)) (now (pt .entry)) (now (nt .entry)) (now (slab .entry))) ⌝ }
+// The table checks, in their order.
+pub fn check(head: Head, bt: &[u32], rt: &[u32], pt: &[u32], nt: &[u32], slab: &[u8]) -> Finding
+    ensures { λ r. ⌜ r ≡ findingOf head (tables (now (bt .entry)) (now (rt .entry)) (now (pt .entry)) (now (nt .entry)) (now (slab .entry))) ⌝ }
 {
     let ranges = in_range(head, bt, rt, pt, nt, slab);
     if !ranges {
-        return 1;
+        return Finding {
+            refusal: 1,
+            rows: 0,
+        };
     }
-    let rows = branches_sound(head, bt);
-    if !rows {
-        return 2;
+    let chain = branches_sound(head, bt);
+    if !chain {
+        return Finding {
+            refusal: 2,
+            rows: 0,
+        };
     }
     let named = names_sound(head, bt, nt);
     if !named {
-        return 2;
+        return Finding {
+            refusal: 2,
+            rows: 0,
+        };
     }
-    let tables = records_sound(head, bt, rt, pt);
-    if !tables {
-        return 3;
-    }
-    0
+    record_check::records_checked(head, bt, rt, pt)
 }

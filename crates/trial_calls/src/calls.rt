@@ -4,7 +4,7 @@ use crate::copies::copy;
 use crate::copies::copy_bytes;
 use crate::copies::differing;
 use crate::copies::differing_bytes;
-use batch::Done;
+use batch::Batched;
 use fresh::Made;
 use model::Head;
 use trial_faults::faults;
@@ -24,6 +24,7 @@ use trial_words::layout::PLACE_LENGTH;
 use trial_words::layout::PLACE_TABLE;
 use trial_words::layout::RECORD_LENGTH;
 use trial_words::layout::RECORD_TABLE;
+use trial_words::layout::ROWS_READ;
 use trial_words::layout::SIZE;
 use trial_words::layout::SLAB;
 use trial_words::layout::SLAB_LENGTH;
@@ -57,8 +58,10 @@ fn number(n: usize) -> u32 {
     (n % 4294967296) as u32
 }
 
-fn note(w: &mut Numbers, d: Done) {
+fn note(w: &mut Numbers, r: Batched) {
+    let d = r.done;
     note_head(w, d.head);
+    put(w, ROWS_READ, number(r.rows));
     put_four(
         w,
         STOP,
@@ -175,7 +178,7 @@ fn batch_on(
     slab: &mut [u8],
     input: &[u8],
     answers: &mut [u8],
-) -> Done {
+) -> Batched {
     let lb = at_most(l.branches, bt.len());
     let lr = at_most(l.records, rt.len());
     let lp = at_most(l.places, pt.len());
@@ -207,7 +210,7 @@ fn ask_on(
     answers: &mut [u8; 4096],
 ) {
     let input = input_bytes(b);
-    let d = batch_on(
+    let r = batch_on(
         head(w),
         lent_lengths(w),
         bt,
@@ -218,7 +221,7 @@ fn ask_on(
         &input,
         answers,
     );
-    note(w, d);
+    note(w, r);
     faults::put_in_kept(w, b);
 }
 
@@ -269,7 +272,7 @@ pub fn ask_over(
 {
     let input = input_bytes(b);
     let mut answers = blank_area();
-    let d = batch_on(
+    let r = batch_on(
         head(w),
         lent_lengths(w),
         bt,
@@ -280,7 +283,7 @@ pub fn ask_over(
         &input,
         &mut answers,
     );
-    note(w, d);
+    note(w, r);
     save_answers(b, &answers);
     number_at(w, STOP)
 }

@@ -1,4 +1,5 @@
-// Changes of one number of a store before a batch: of the head, of the lengths lent, or of a table.
+// Changes of a store before a batch: of one number of the head, of the lengths lent, or of a table; or two records in each other's row.
+use crate::faults::swap;
 use trial_words::layout::BRANCH_LENGTH;
 use trial_words::layout::BRANCH_ROWS;
 use trial_words::layout::BRANCH_TABLE;
@@ -14,6 +15,7 @@ use trial_words::layout::PLACE_TABLE;
 use trial_words::layout::RECORD_ROWS;
 use trial_words::layout::RECORD_TABLE;
 use trial_words::layout::REPLACED;
+use trial_words::layout::record_row;
 use trial_words::words::get;
 use trial_words::words::minus;
 use trial_words::words::number_at;
@@ -33,15 +35,25 @@ fn record_numbers(w: &Numbers) -> u32 {
 // The numbers of the first three name rows.
 const FIRST_NAMES: u32 = 9;
 
-// How many changes the family tries: each of the numbers takes eight values.
+// Each of the numbers takes eight values.
+fn replacements(w: &Numbers) -> u32 {
+    let rows = plus(branch_numbers(w), record_numbers(w));
+    plus(11 + FIRST_NAMES, plus(rows, get(w, PLACE_ROWS))) % 65536 * 8
+}
+
+// Each record changes rows with the next in two ways.
+fn swaps(w: &Numbers) -> u32 {
+    minus(get(w, RECORD_ROWS), 1) % 65536 * 2
+}
+
+// How many changes the family tries.
 pub fn count(w: &Numbers) -> u32
     ensures { λ r. ⌜ (getD (now (w .entry)) 57 0 ≡ 0 → r ≡ 0) ⌝ }
 {
     if number_at(w, CHANGES) == 0 {
         return 0;
     }
-    let rows = plus(branch_numbers(w), record_numbers(w));
-    plus(11 + FIRST_NAMES, plus(rows, get(w, PLACE_ROWS))) % 65536 * 8
+    plus(replacements(w), swaps(w))
 }
 
 // Where the c-th number stands: six of the head, five lengths, then the name rows and the other tables.
@@ -97,25 +109,55 @@ fn limited(c: u32, n: u32) -> u32 {
     }
 }
 
-// The present change is made, and the number that it replaces is noted and answered.
-pub fn make(w: &mut Numbers) -> u32
-    ensures { λ r. ⌜ r ≡ getD (now (w .exit)) 58 0 ⌝ }
-{
-    let change = get(w, CHANGE);
+fn replace(w: &mut Numbers, change: u32) {
     let at = place_of(w, change / 8);
     let old = get(w, at);
     let new = value(get(w, HEAD_NOW), old, change % 8);
     put(w, REPLACED, old);
     put(w, at, limited(change / 8, new));
+}
+
+fn put_back(w: &mut Numbers, change: u32) {
+    let at = place_of(w, change / 8);
+    let old = get(w, REPLACED);
+    put(w, at, old);
+}
+
+// Two records that stand together change rows; every second time each leaves its place behind, so that only their order is wrong.
+fn swap_records(w: &mut Numbers, change: u32) {
+    let row = record_row(change / 2);
+    swap(w, row, plus(row, 3));
+    swap(w, plus(row, 1), plus(row, 4));
+    if change % 2 == 0 {
+        swap(w, plus(row, 2), plus(row, 5));
+    }
+}
+
+// The present change is made. Answers the number that was replaced last.
+pub fn make(w: &mut Numbers) -> u32
+    ensures { λ r. ⌜ r ≡ getD (now (w .exit)) 58 0 ⌝ }
+{
+    let change = get(w, CHANGE);
+    let first = replacements(w);
+    if change < first {
+        replace(w, change);
+    } else {
+        swap_records(w, minus(change, first));
+    }
     number_at(w, REPLACED)
 }
 
-// The present change is undone. Answers the number that stands again.
+// The present change is undone. Answers the number that was replaced last.
 pub fn undo(w: &mut Numbers) -> u32
     ensures { λ r. ⌜ r ≡ getD (now (w .entry)) 58 0 ⌝ }
 {
-    let at = place_of(w, get(w, CHANGE) / 8);
     let old = number_at(w, REPLACED);
-    put(w, at, old);
+    let change = get(w, CHANGE);
+    let first = replacements(w);
+    if change < first {
+        put_back(w, change);
+    } else {
+        swap_records(w, minus(change, first));
+    }
     old
 }

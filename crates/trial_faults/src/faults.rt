@@ -7,6 +7,7 @@ use trial_words::layout::AREA;
 use trial_words::layout::BRANCH_TABLE;
 use trial_words::layout::Bytes;
 use trial_words::layout::CHANGED;
+use trial_words::layout::DUE;
 use trial_words::layout::FAULT;
 use trial_words::layout::FAULTS;
 use trial_words::layout::FAULTY;
@@ -24,6 +25,7 @@ use trial_words::layout::PLACE_ROWS;
 use trial_words::layout::PLACE_TABLE;
 use trial_words::layout::PLAY;
 use trial_words::layout::RECORD_TABLE;
+use trial_words::layout::ROWS_READ;
 use trial_words::layout::SLAB;
 use trial_words::layout::SPOT;
 use trial_words::layout::STOP;
@@ -67,7 +69,7 @@ fn spot(w: &Numbers, b: &Bytes, fault: u32) -> u32 {
         return in_batch(w, b, fault);
     }
     if turn == CHANGED {
-        return in_refused(fault);
+        return in_refused(fault, get(w, DUE));
     }
     if turn == FRESH {
         return in_fresh(fault);
@@ -87,6 +89,7 @@ fn in_batch(w: &Numbers, b: &Bytes, fault: u32) -> u32 {
         41..=46 => in_names(w, fault, get(w, HEAD_NAMES)),
         47 => in_naming(b, listed(w, 0).operation),
         50..=56 => in_reclaim(w, b, fault, listed(w, 0).operation),
+        57 => ROWS_READ,
         _ => NOWHERE,
     }
 }
@@ -186,11 +189,13 @@ fn in_page(b: &Bytes, fault: u32) -> u32 {
     }
 }
 
-fn in_refused(fault: u32) -> u32 {
+fn in_refused(fault: u32, due: u32) -> u32 {
     match fault {
         23 => STOP,
         24 => HEAD_NOW,
         29 => plus(BYTES, ANSWERS),
+        58 => if due == 2 { ROWS_READ } else { NOWHERE },
+        59 => if due == 3 { ROWS_READ } else { NOWHERE },
         _ => NOWHERE,
     }
 }
@@ -220,7 +225,7 @@ fn in_kept(fault: u32) -> u32 {
     }
 }
 
-fn swap(w: &mut Numbers, i: u32, j: u32) {
+pub(crate) fn swap(w: &mut Numbers, i: u32, j: u32) {
     let a = get(w, i);
     let b = get(w, j);
     put(w, i, b);

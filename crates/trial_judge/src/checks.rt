@@ -36,13 +36,26 @@ pub(crate) fn due(w: &Numbers) -> u32 {
     if names_wrong(w, get(w, HEAD_NAMES)) != 0 {
         return 2;
     }
-    if records_wrong(w, get(w, HEAD_RECORDS)) != 0 {
+    if broken_from(w, 0) < get(w, HEAD_RECORDS) {
         return 3;
     }
     if in_use(w, PLACE_TABLE, get(w, PLACE_LENGTH)) == get(w, HEAD_RECORDS) {
         0
     } else {
         3
+    }
+}
+
+// How many record rows are read where that stop is due: up to and including the first that breaks a rule, else all; none with 1 and 2.
+pub(crate) fn rows_read(w: &Numbers, stop: u32) -> u32 {
+    if between(stop, 1, 2) {
+        return 0;
+    }
+    let first = broken_from(w, 0);
+    if first < get(w, HEAD_RECORDS) {
+        plus(first, 1)
+    } else {
+        first
     }
 }
 
@@ -202,57 +215,82 @@ fn same_name(w: &Numbers, j: u32, k: u32) -> bool {
     }
 }
 
-// How many of n record rows are wrong.
-fn records_wrong(w: &Numbers, n: u32) -> u32 {
-    let mut wrong: u32 = 0;
-    for k in 0..n {
-        wrong = plus(wrong, record_wrong(w, k));
+// The first record row from an index on that breaks a rule; the number of records where none does.
+fn broken_from(w: &Numbers, from: u32) -> u32 {
+    let n = get(w, HEAD_RECORDS);
+    for k in from..n {
+        if broken_rule(w, k) != 0 {
+            return k;
+        }
     }
-    wrong
+    n
 }
 
-fn record_wrong(w: &Numbers, k: u32) -> u32 {
+// Which rule the record k breaks: 0 none, 1 its address, 2 its moment is above now, 3 no branch holds its moment; 4 and 5 its order;
+// 6 and 7 its place.
+fn broken_rule(w: &Numbers, k: u32) -> u32 {
     let moment = get(w, plus(record_row(k), 1));
     if get(w, record_row(k)) >= get(w, HEAD) {
         return 1;
     }
     if moment > get(w, HEAD_NOW) {
-        return 1;
+        return 2;
     }
     if holders(w, get(w, HEAD_BRANCHES), moment) == 0 {
-        return 1;
+        return 3;
     }
-    if !after_previous(w, k) {
-        return 1;
-    }
-    place_wrong(w, k)
+    let order = order_wrong(w, k);
+    if order == 0 { place_wrong(w, k) } else { order }
 }
 
-// The record's place is in the table, and the place row names the record.
+// The record's place is in the table, else 6, and the place row names the record, else 7.
 fn place_wrong(w: &Numbers, k: u32) -> u32 {
     let place = get(w, plus(record_row(k), 2));
     if place >= get(w, PLACE_LENGTH) {
-        return 1;
+        return 6;
     }
     if get(w, plus(PLACE_TABLE, place)) == plus(k, 1) {
         0
     } else {
-        1
+        7
     }
 }
 
-// Whether the record k stands after the one before it, by address, then by moment.
-fn after_previous(w: &Numbers, k: u32) -> bool {
+// The record stands after the one before it, by address, then by moment.
+fn order_wrong(w: &Numbers, k: u32) -> u32 {
     if k == 0 {
-        return true;
+        return 0;
     }
     let at = record_row(k);
     let before = record_row(minus(k, 1));
     if get(w, before) == get(w, at) {
-        get(w, plus(before, 1)) < get(w, plus(at, 1))
+        ascent_wrong(get(w, plus(before, 1)), get(w, plus(at, 1)))
     } else {
-        get(w, before) < get(w, at)
+        ascent_wrong(get(w, before), get(w, at))
     }
+}
+
+// A number is above the one before it: 4 where it is below, 5 where it is the same.
+fn ascent_wrong(before: u32, n: u32) -> u32 {
+    if before < n {
+        return 0;
+    }
+    if before == n { 5 } else { 4 }
+}
+
+// Where 3 is due and so many record rows are read: the rule that the last one breaks; 8 where none does.
+pub(crate) fn last_broken(w: &Numbers, rows: u32) -> u32 {
+    let rule: u32 = if rows == 0 {
+        0
+    } else {
+        broken_rule(w, minus(rows, 1))
+    };
+    if rule == 0 { 8 } else { rule }
+}
+
+// Whether one of the rows behind those read breaks a rule too.
+pub(crate) fn broken_behind(w: &Numbers, rows: u32) -> bool {
+    broken_from(w, rows) < get(w, HEAD_RECORDS)
 }
 
 // How many of n numbers from an index on are not 0.

@@ -7,11 +7,14 @@ use trial_words::layout::BLANK;
 use trial_words::layout::BRANCH_LENGTH;
 use trial_words::layout::BRANCH_TABLE;
 use trial_words::layout::BRANCHES;
+use trial_words::layout::BROKEN;
+use trial_words::layout::BROKEN_BEHIND;
 use trial_words::layout::Bytes;
 use trial_words::layout::COUNT;
 use trial_words::layout::DUE;
 use trial_words::layout::HEAD;
 use trial_words::layout::HEAD_DUE;
+use trial_words::layout::HEAD_RECORDS;
 use trial_words::layout::HELD;
 use trial_words::layout::INPUT;
 use trial_words::layout::LAST;
@@ -27,6 +30,8 @@ use trial_words::layout::PLACE_TABLE;
 use trial_words::layout::RECORD_LENGTH;
 use trial_words::layout::RECORD_TABLE;
 use trial_words::layout::ROWS;
+use trial_words::layout::ROWS_DUE;
+use trial_words::layout::ROWS_READ;
 use trial_words::layout::RUNNING;
 use trial_words::layout::SEEN;
 use trial_words::layout::SENT;
@@ -35,6 +40,7 @@ use trial_words::layout::SLAB;
 use trial_words::layout::STOP;
 use trial_words::layout::TAKEN;
 use trial_words::layout::TOUCHED;
+use trial_words::layout::UNREAD;
 use trial_words::layout::WRONG;
 use trial_words::layout::held_at;
 use trial_words::layout::record_row;
@@ -104,6 +110,7 @@ pub fn judge(w: &mut Numbers, b: &Bytes) -> u32
 {
     put_two(w, DUE, RUNNING, 0);
     put_two(w, TAKEN, 0, 0);
+    put(w, ROWS_DUE, get(w, HELD));
     trial_reference::places::begin_batch(w);
     judge_all(w, b, get(w, COUNT));
     judge_end(w);
@@ -221,11 +228,12 @@ pub fn judge_read(w: &mut Numbers, b: &Bytes, at: u32, moment: u32, date: u32, p
     number_at(w, WRONG)
 }
 
-// The stop number and the three counts; the answer area past the answers is untouched.
+// The stop number, the three counts of the requests and the record rows read; the answer area past the answers is untouched.
 fn judge_report(w: &mut Numbers, b: &Bytes) {
     let due = get(w, DUE);
     add(w, plus(SEEN, due % 32), 1);
     same_numbers(w, STOP, DUE, 4);
+    same_at(w, ROWS_READ, ROWS_DUE);
     let sent = get(w, SENT);
     let touched = others(b, plus(ANSWERS, sent), minus(get(w, AREA), sent), BLANK);
     same(w, touched, 0);
@@ -303,15 +311,39 @@ fn record_wrong(w: &Numbers, b: &Bytes, k: u32) -> u32 {
     plus(elsewhere, bytes)
 }
 
-// What is due of a batch on a changed store: the stop that the table checks give. Where they give none, nothing is handed in. Answers the stop.
+// What is due of a batch on a changed store: the stop that the table checks give, and the record rows that they read. Where they give
+// none, nothing is handed in. Answers the stop.
 pub fn expect_stop(w: &mut Numbers) -> u32
     ensures { λ r. ⌜ r ≡ getD (now (w .exit)) 32 0 ⌝ }
 {
     let due = checks::due(w);
     put_four(w, DUE, due, 0, 0, 0);
+    expect_rows(w, due);
     hand_in(w, due != 0);
     keep_head(w);
     number_at(w, DUE)
+}
+
+fn expect_rows(w: &mut Numbers, due: u32) {
+    let rows = checks::rows_read(w, due);
+    put(w, ROWS_DUE, rows);
+    if due == 3 {
+        count_broken(w, rows);
+    }
+    if due == 2 {
+        if get(w, HEAD_RECORDS) != 0 {
+            add(w, UNREAD, 1);
+        }
+    }
+}
+
+// It is counted which rule the last record row read breaks, and where one behind it breaks a rule too.
+fn count_broken(w: &mut Numbers, rows: u32) {
+    let rule = checks::last_broken(w, rows);
+    add(w, BROKEN + rule % 16, 1);
+    if checks::broken_behind(w, rows) {
+        add(w, BROKEN_BEHIND, 1);
+    }
 }
 
 fn hand_in(w: &mut Numbers, all: bool) {

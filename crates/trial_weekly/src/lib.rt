@@ -14,11 +14,14 @@ use trial_words::layout::Bytes;
 use trial_words::layout::COUNT;
 use trial_words::layout::CUT;
 use trial_words::layout::HEAD_BRANCHES;
+use trial_words::layout::HEAD_RECORDS;
 use trial_words::layout::LARGEST;
 use trial_words::layout::NAME_NUMBERS;
 use trial_words::layout::Numbers;
 use trial_words::layout::PAGE_ANSWER;
 use trial_words::layout::READ;
+use trial_words::layout::ROWS_DUE;
+use trial_words::layout::ROWS_READ;
 use trial_words::layout::SEEN;
 use trial_words::layout::SENT;
 use trial_words::layout::SIZE;
@@ -199,7 +202,7 @@ fn list(w: &mut Numbers, n: u32) {
     put(w, CUT, 0);
 }
 
-// A batch of the requests listed; its refusals and the branches are counted.
+// A batch of the requests listed, which answers each and reads every record row; its refusals and the branches are counted.
 fn hand_in(
     w: &mut Numbers,
     b: &mut Bytes,
@@ -210,10 +213,17 @@ fn hand_in(
     slab: &mut Slab,
 ) {
     encoding::encode(w, b);
+    put(w, ROWS_DUE, get(w, HEAD_RECORDS));
     calls::ask_over(w, b, bt, rt, pt, nt, slab);
     count_answers(w, b, get(w, plus(STOP, 1)));
     count_branches(w, get(w, HEAD_BRANCHES));
-    if get(w, plus(STOP, 1)) != get(w, COUNT) {
+    same(w, plus(STOP, 1), COUNT);
+    same(w, ROWS_READ, ROWS_DUE);
+}
+
+// One difference more where two numbers differ.
+fn same(w: &mut Numbers, i: u32, j: u32) {
+    if get(w, i) != get(w, j) {
         add(w, WRONG, 1);
     }
 }

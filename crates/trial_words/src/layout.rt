@@ -75,6 +75,11 @@ pub const TAKEN: u32 = 34;
 
 pub const SENT: u32 = 35;
 
+// How many record rows the table checks read, as the batch reported, and as the reference expects.
+pub const ROWS_READ: u32 = 38;
+
+pub const ROWS_DUE: u32 = 39;
+
 // The family: how lists are made, letters, length, lists, seed, first letter; the number of the present list; how many names are drawn.
 pub const MODE: u32 = 40;
 
@@ -112,7 +117,7 @@ pub const SNAPSHOT: u32 = 55;
 
 pub const CHANGE: u32 = 56;
 
-// Whether changes of one number are tried at the end of each list, and the number that the present one replaced.
+// Whether changes are tried at the end of each list, and the number that was replaced last.
 pub const CHANGES: u32 = 57;
 
 pub const REPLACED: u32 = 58;
@@ -165,6 +170,14 @@ pub const ROWS_GIVEN: u32 = 384;
 pub const COUNT_BEFORE: u32 = 448;
 
 pub const COUNT_GIVEN: u32 = 449;
+
+// Of refusals 3, how often each rule was the one that the last record row read breaks, and how often a row behind it breaks one too;
+// how often 2 refused a store with records.
+pub const BROKEN: u32 = 456;
+
+pub const BROKEN_BEHIND: u32 = 472;
+
+pub const UNREAD: u32 = 473;
 
 // The tables that are lent to the store.
 pub const BRANCH_TABLE: u32 = 5120;

@@ -9,6 +9,8 @@ use trial_words::layout::BASE;
 use trial_words::layout::BATCHES;
 use trial_words::layout::BELOW;
 use trial_words::layout::BRANCH_LENGTH;
+use trial_words::layout::BROKEN;
+use trial_words::layout::BROKEN_BEHIND;
 use trial_words::layout::CALLED;
 use trial_words::layout::CHANGES;
 use trial_words::layout::DIFFER;
@@ -29,6 +31,7 @@ use trial_words::layout::SIZE;
 use trial_words::layout::SLAB_LENGTH;
 use trial_words::layout::TAKEN_OVER;
 use trial_words::layout::TOLD;
+use trial_words::layout::UNREAD;
 use trial_words::layout::WENT;
 use trial_words::layout::WRONG;
 use trial_words::words::get;
@@ -276,6 +279,35 @@ fn say_settled(w: &Numbers) {
     io::write_all(1, b"\n");
 }
 
+// Where the table checks refused a changed store that has records.
+fn say_broken(w: &Numbers) {
+    io::write_all(1, b"3 refused at a record row with a wrong address");
+    say_count(w, BROKEN + 1);
+    io::write_all(1, b", a moment above now");
+    say_count(w, BROKEN + 2);
+    io::write_all(1, b", a moment in no branch");
+    say_count(w, BROKEN + 3);
+    io::write_all(1, b", a place outside");
+    say_count(w, BROKEN + 6);
+    io::write_all(1, b", the place of another");
+    say_count(w, BROKEN + 7);
+    io::write_all(1, b", below the row before");
+    say_count(w, BROKEN + 4);
+    io::write_all(1, b", the same as the row before");
+    say_count(w, BROKEN + 5);
+    say_others(w);
+}
+
+fn say_others(w: &Numbers) {
+    io::write_all(1, b"; a row behind it was wrong too");
+    say_count(w, BROKEN_BEHIND);
+    io::write_all(1, b"; 3 refused after all rows");
+    say_count(w, BROKEN + 8);
+    io::write_all(1, b"; 2 refused before a record was read");
+    say_count(w, UNREAD);
+    io::write_all(1, b"\n");
+}
+
 fn say_seen(w: &Numbers) {
     for k in 1..18u32 {
         say_count(w, plus(SEEN, k));
@@ -287,16 +319,18 @@ fn in_refused(fault: u32) -> u32 {
     match fault {
         23..=29 => 1,
         49 => 1,
+        58 | 59 => 1,
         _ => 0,
     }
 }
 
-// Faults from the 41st on are of names, from the 50th on of reclaims.
+// Faults from the 41st on are of names, from the 50th on of reclaims, from the 57th on of the record rows read.
 fn fault_family(fault: u32) -> u32 {
     match fault {
         1..=40 => FAULT_FAMILY,
         41..=49 => FAULT_FAMILY + 1,
-        _ => FAULT_FAMILY + 2,
+        50..=56 => FAULT_FAMILY + 2,
+        _ => FAULT_FAMILY,
     }
 }
 
@@ -313,7 +347,7 @@ fn with_fault(w: &mut Numbers, fault: u32) {
 }
 
 fn all_faults(w: &mut Numbers) {
-    for fault in 1..57u32 {
+    for fault in 1..60u32 {
         with_fault(w, fault);
     }
 }
@@ -379,6 +413,7 @@ fn main() {
     say_told(&w);
     say_below(&w);
     say_settled(&w);
+    say_broken(&w);
     weekly(4);
     weekly(52);
     say_ways();

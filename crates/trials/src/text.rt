@@ -16,8 +16,8 @@ drawn, 3 branch rows\n\
 drawn, 6 branch rows\n\
 drawn, 16 branch rows\n\
 drawn, up to the last moment\n\
-18 letters, length 2, each number of the store changed\n\
-drawn, 16 branch rows, each number of the store changed\n\
+18 letters, length 2, each number of the store changed, records swapped\n\
+drawn, 16 branch rows, each number of the store changed, records swapped\n\
 10 letters with names, length 5, a batch each\n\
 10 letters with names, length 5, one batch\n\
 7 letters with names, length 6, one batch\n\
@@ -26,8 +26,8 @@ drawn, 16 branch rows, each number of the store changed\n\
 drawn, 4 names, 3 branch rows\n\
 drawn, 128 names, 16 branch rows\n\
 drawn, 4 names, up to the last moment\n\
-7 letters with names, length 3, each number of the store changed\n\
-drawn, 128 names, 16 branch rows, each number of the store changed\n\
+7 letters with names, length 3, each number of the store changed, records swapped\n\
+drawn, 128 names, 16 branch rows, each number of the store changed, records swapped\n\
 drawn, set back into the last moments, 4 names, 16 branch rows";
     let line: u32 = if k < 7 { 0 } else { minus(k, 6) };
     say_line(names, line);
@@ -59,7 +59,8 @@ the name rows of a refused store\nthe rows of a reclaim, one gone that holds a k
 the rows of a reclaim, one gone that holds a named moment\n\
 the rows of a reclaim, one gone that ends at the floor\nthe rows of a reclaim, the first gone\n\
 the rows of a reclaim, a cut not taken over\nthe rows of a reclaim, a cut taken over once only\n\
-the rows of a reclaim, all kept";
+the rows of a reclaim, all kept\nthe record rows read\nthe record rows read where 2 refuses\n\
+the record rows read where 3 refuses";
     io::write_all(1, b"a fault in ");
     say_line(names, fault);
     io::write_all(1, b": put into ");

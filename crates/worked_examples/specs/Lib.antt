@@ -4,3 +4,4 @@ pub mod Dates
 pub mod Packed
 pub mod Names
 pub mod Weekly
+pub mod RowsRead

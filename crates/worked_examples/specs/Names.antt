@@ -8,7 +8,7 @@ use lib.ListN.{length, drop, replicate}
 use Rattle.model.specs.declared.Name.{Name}
 use Rattle.model.specs.Store.{Store, open-end, zero-record, keep, any, branches, newest, records, names, isCalled, called, pageAt, withPage}
 use Rattle.model.specs.Lookup.{isReadable, holds, ancestry, within, latest, firstFound, lookup, anyUpTo, isGiven}
-use Rattle.model.specs.Soundness.{sizesAllowed, inRange, chained, branchesSound, namesSound, rowsSound, precedes, ascending, placed, used, recordsSound, tableCheck}
+use Rattle.model.specs.Soundness.{sizesAllowed, inRange, chained, branchesSound, namesSound, rowsSound, precedes, ascending, byItself, placed, used, recordsSound, tableCheck}
 use Rattle.model.specs.Wire.{number, bytes, packed, highOf, lowOf, byOperation, parse, answerBytes}
 use Rattle.model.specs.Step.{withNames, firstFree, before, inserted, doWrite, doMark, branched, doRevert, doRead, stays, landing, settled, reclaimed, doReclaim, doGive, doWithdraw, step}
 use Rattle.model.specs.Fresh.{fresh, programStore}
@@ -206,13 +206,13 @@ tables =
     ∷ []
 
 pub named-sessions : all-agree (programStore (replicate 32768 0)) (commissioned ∷ freed-later ∷ branch-kept ∷ []) ≡ true
-unfolding agrees all-agree keep any isCalled called branches newest records names pageAt withPage holds ancestry within latest firstFound lookup anyUpTo isGiven sizesAllowed inRange chained branchesSound namesSound rowsSound precedes ascending placed used recordsSound tableCheck number bytes packed highOf lowOf byOperation parse answerBytes firstFree before inserted doWrite doMark branched doRevert doRead stays landing settled reclaimed doReclaim doGive doWithdraw step fresh run batch isReadable
+unfolding agrees all-agree keep any isCalled called branches newest records names pageAt withPage holds ancestry within latest firstFound lookup anyUpTo isGiven sizesAllowed inRange chained branchesSound namesSound rowsSound precedes ascending byItself placed used recordsSound tableCheck number bytes packed highOf lowOf byOperation parse answerBytes firstFree before inserted doWrite doMark branched doRevert doRead stays landing settled reclaimed doReclaim doGive doWithdraw step fresh run batch isReadable
 named-sessions = refl
 
 pub named-batches : holds-all (tests ++ (shapes ++ checks)) ≡ true
-unfolding holds-all keep any isCalled called branches newest records names pageAt withPage holds ancestry within latest firstFound lookup anyUpTo isGiven sizesAllowed inRange chained branchesSound namesSound rowsSound precedes ascending placed used recordsSound tableCheck number bytes packed highOf lowOf byOperation parse answerBytes firstFree before inserted doWrite doMark branched doRevert doRead stays landing settled reclaimed doReclaim doGive doWithdraw step run batch isReadable
+unfolding holds-all keep any isCalled called branches newest records names pageAt withPage holds ancestry within latest firstFound lookup anyUpTo isGiven sizesAllowed inRange chained branchesSound namesSound rowsSound precedes ascending byItself placed used recordsSound tableCheck number bytes packed highOf lowOf byOperation parse answerBytes firstFree before inserted doWrite doMark branched doRevert doRead stays landing settled reclaimed doReclaim doGive doWithdraw step run batch isReadable
 named-batches = refl
 
 pub named-rows : rows-all tables ≡ true
-unfolding rows-all keep any isCalled called branches newest records names pageAt withPage holds ancestry within latest firstFound lookup anyUpTo isGiven sizesAllowed inRange chained branchesSound namesSound rowsSound precedes ascending placed used recordsSound tableCheck number bytes packed highOf lowOf byOperation parse answerBytes firstFree before inserted doWrite doMark branched doRevert doRead stays landing settled reclaimed doReclaim doGive doWithdraw step run batch isReadable
+unfolding rows-all keep any isCalled called branches newest records names pageAt withPage holds ancestry within latest firstFound lookup anyUpTo isGiven sizesAllowed inRange chained branchesSound namesSound rowsSound precedes ascending byItself placed used recordsSound tableCheck number bytes packed highOf lowOf byOperation parse answerBytes firstFree before inserted doWrite doMark branched doRevert doRead stays landing settled reclaimed doReclaim doGive doWithdraw step run batch isReadable
 named-rows = refl

@@ -7,7 +7,7 @@ use lib.Dec.{eqb}
 use Rattle.model.specs.declared.Record.{Record}
 use Rattle.model.specs.Store.{Store, open-end, zero-record, keep, any, branches, newest, records, names, pageAt, withPage}
 use Rattle.model.specs.Lookup.{isReadable, holds, ancestry, within, latest, firstFound, lookup, anyUpTo, isGiven}
-use Rattle.model.specs.Soundness.{sizesAllowed, inRange, chained, branchesSound, namesSound, rowsSound, precedes, ascending, placed, used, recordsSound, tableCheck}
+use Rattle.model.specs.Soundness.{sizesAllowed, inRange, chained, branchesSound, namesSound, rowsSound, precedes, ascending, byItself, placed, used, recordsSound, tableCheck}
 use Rattle.model.specs.Wire.{write, number, bytes, packed, byOperation, parse, requestBytes, answerBytes}
 use Rattle.model.specs.Step.{firstFree, before, inserted, doWrite, doMark, branched, doRevert, doRead, stays, landing, settled, reclaimed, doReclaim, step}
 use Rattle.model.specs.Batch.{Run, run, batch}
@@ -92,5 +92,5 @@ taking-none =
     ∷ []
 
 pub packed-pages : places-all (writing ++ (reclaiming ++ taking-none)) ≡ true
-unfolding places-all reach keep any branches newest records names pageAt withPage holds ancestry within latest firstFound lookup anyUpTo isGiven sizesAllowed inRange chained branchesSound namesSound rowsSound precedes ascending placed used recordsSound tableCheck number bytes packed byOperation parse requestBytes answerBytes firstFree before inserted doWrite doMark branched doRevert doRead stays landing settled reclaimed doReclaim step run batch isReadable
+unfolding places-all reach keep any branches newest records names pageAt withPage holds ancestry within latest firstFound lookup anyUpTo isGiven sizesAllowed inRange chained branchesSound namesSound rowsSound precedes ascending byItself placed used recordsSound tableCheck number bytes packed byOperation parse requestBytes answerBytes firstFree before inserted doWrite doMark branched doRevert doRead stays landing settled reclaimed doReclaim step run batch isReadable
 packed-pages = refl

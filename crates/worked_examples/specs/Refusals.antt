@@ -9,7 +9,7 @@ use Rattle.model.specs.declared.Branch.{Branch}
 use Rattle.model.specs.declared.Record.{Record}
 use Rattle.model.specs.Store.{Store, open-end, keep, any, branches, newest, records, names, pageAt, withPage, zero-record, zero-name}
 use Rattle.model.specs.Lookup.{isReadable, holds, ancestry, within, latest, firstFound, lookup, anyUpTo, isGiven}
-use Rattle.model.specs.Soundness.{sizesAllowed, inRange, chained, branchesSound, namesSound, rowsSound, precedes, ascending, placed, used, recordsSound, tableCheck}
+use Rattle.model.specs.Soundness.{sizesAllowed, inRange, chained, branchesSound, namesSound, rowsSound, precedes, ascending, byItself, placed, used, recordsSound, tableCheck}
 use Rattle.model.specs.Wire.{write, revert, readAt, number, bytes, packed, byOperation, parse, requestBytes, answerBytes}
 use Rattle.model.specs.Step.{firstFree, before, inserted, doWrite, doMark, branched, doRevert, doRead, stays, landing, settled, reclaimed, doReclaim, step}
 use Rattle.model.specs.Fresh.{fresh}
@@ -171,5 +171,5 @@ unfolding holds-sizes sizesAllowed
 fresh-sizes = refl
 
 pub refusals : holds-all (checks ++ (requests ++ stops)) ≡ true
-unfolding holds-all keep any branches newest records names pageAt withPage holds ancestry within latest firstFound lookup anyUpTo isGiven sizesAllowed inRange chained branchesSound namesSound rowsSound precedes ascending placed used recordsSound tableCheck number bytes packed byOperation parse requestBytes answerBytes firstFree before inserted doWrite doMark branched doRevert doRead stays landing settled reclaimed doReclaim step fresh run batch isReadable
+unfolding holds-all keep any branches newest records names pageAt withPage holds ancestry within latest firstFound lookup anyUpTo isGiven sizesAllowed inRange chained branchesSound namesSound rowsSound precedes ascending byItself placed used recordsSound tableCheck number bytes packed byOperation parse requestBytes answerBytes firstFree before inserted doWrite doMark branched doRevert doRead stays landing settled reclaimed doReclaim step fresh run batch isReadable
 refusals = refl

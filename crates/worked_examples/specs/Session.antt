@@ -7,7 +7,7 @@ use lib.Dec.{eqb}
 use lib.ListN.{replicate}
 use Rattle.model.specs.Store.{Store, keep, any, branches, newest, records, names, pageAt, withPage}
 use Rattle.model.specs.Lookup.{isReadable, holds, ancestry, within, latest, firstFound, lookup, anyUpTo, isGiven}
-use Rattle.model.specs.Soundness.{sizesAllowed, inRange, chained, branchesSound, namesSound, rowsSound, precedes, ascending, placed, used, recordsSound, tableCheck}
+use Rattle.model.specs.Soundness.{sizesAllowed, inRange, chained, branchesSound, namesSound, rowsSound, precedes, ascending, byItself, placed, used, recordsSound, tableCheck}
 use Rattle.model.specs.Wire.{number, bytes, packed, byOperation, parse, answerBytes}
 use Rattle.model.specs.Step.{firstFree, before, inserted, doWrite, doMark, branched, doRevert, doRead, stays, landing, settled, reclaimed, doReclaim, step}
 use Rattle.model.specs.Fresh.{fresh, programStore}
@@ -107,5 +107,5 @@ all-agree s [] = true
 all-agree s (t ∷ ts) = agrees s t && all-agree s ts
 
 pub session : all-agree (programStore (replicate 32768 0)) (p1-to-10 ∷ p11 ∷ p12 ∷ []) ≡ true
-unfolding agrees all-agree keep any branches newest records names pageAt withPage holds ancestry within latest firstFound lookup anyUpTo isGiven sizesAllowed inRange chained branchesSound namesSound rowsSound precedes ascending placed used recordsSound tableCheck number bytes packed byOperation parse answerBytes firstFree before inserted doWrite doMark branched doRevert doRead stays landing settled reclaimed doReclaim step fresh run batch isReadable
+unfolding agrees all-agree keep any branches newest records names pageAt withPage holds ancestry within latest firstFound lookup anyUpTo isGiven sizesAllowed inRange chained branchesSound namesSound rowsSound precedes ascending byItself placed used recordsSound tableCheck number bytes packed byOperation parse answerBytes firstFree before inserted doWrite doMark branched doRevert doRead stays landing settled reclaimed doReclaim step fresh run batch isReadable
 session = refl

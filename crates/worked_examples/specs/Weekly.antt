@@ -8,7 +8,7 @@ use lib.ListN.{replicate}
 use Rattle.model.specs.declared.Branch.{Branch}
 use Rattle.model.specs.Store.{Store, open-end, keep, any, branches, newest, records, names, isCalled, called, pageAt, withPage}
 use Rattle.model.specs.Lookup.{isReadable, holds, ancestry, within, latest, firstFound, lookup, anyUpTo, isGiven}
-use Rattle.model.specs.Soundness.{sizesAllowed, inRange, chained, branchesSound, namesSound, rowsSound, precedes, ascending, placed, used, recordsSound, tableCheck}
+use Rattle.model.specs.Soundness.{sizesAllowed, inRange, chained, branchesSound, namesSound, rowsSound, precedes, ascending, byItself, placed, used, recordsSound, tableCheck}
 use Rattle.model.specs.Wire.{readAt, reclaim, number, bytes, packed, highOf, lowOf, byOperation, parse, requestBytes, answerBytes}
 use Rattle.model.specs.Step.{firstFree, before, inserted, doWrite, doMark, branched, doRevert, doRead, stays, landing, settled, reclaimed, doReclaim, doGive, doWithdraw, step}
 use Rattle.model.specs.Fresh.{fresh, programStore}
@@ -139,9 +139,9 @@ one-by-one =
     ∷ []
 
 pub weekly : all-follow (programStore (replicate 32768 0)) (idle-weeks ∷ a-kept-record ∷ a-named-moment ∷ back-to-a-name ∷ the-end ∷ []) ≡ true
-unfolding follows all-follow keep any isCalled called branches newest records names pageAt withPage holds ancestry within latest firstFound lookup anyUpTo isGiven sizesAllowed inRange chained branchesSound namesSound rowsSound precedes ascending placed used recordsSound tableCheck number bytes packed highOf lowOf byOperation parse requestBytes answerBytes firstFree before inserted doWrite doMark branched doRevert doRead stays landing settled reclaimed doReclaim doGive doWithdraw step fresh run batch isReadable
+unfolding follows all-follow keep any isCalled called branches newest records names pageAt withPage holds ancestry within latest firstFound lookup anyUpTo isGiven sizesAllowed inRange chained branchesSound namesSound rowsSound precedes ascending byItself placed used recordsSound tableCheck number bytes packed highOf lowOf byOperation parse requestBytes answerBytes firstFree before inserted doWrite doMark branched doRevert doRead stays landing settled reclaimed doReclaim doGive doWithdraw step fresh run batch isReadable
 weekly = refl
 
 pub removals : removes-all (programStore (replicate 32768 0)) one-by-one ≡ true
-unfolding removes-all startingAt removed removedAll keep any branches newest records names pageAt withPage holds ancestry within latest firstFound lookup anyUpTo isGiven sizesAllowed inRange chained branchesSound namesSound rowsSound precedes ascending placed used recordsSound tableCheck number bytes packed byOperation parse requestBytes answerBytes firstFree before inserted doWrite doMark branched doRevert doRead stays landing settled reclaimed doReclaim step fresh run batch isReadable
+unfolding removes-all startingAt removed removedAll keep any branches newest records names pageAt withPage holds ancestry within latest firstFound lookup anyUpTo isGiven sizesAllowed inRange chained branchesSound namesSound rowsSound precedes ascending byItself placed used recordsSound tableCheck number bytes packed byOperation parse requestBytes answerBytes firstFree before inserted doWrite doMark branched doRevert doRead stays landing settled reclaimed doReclaim step fresh run batch isReadable
 removals = refl

@@ -4,15 +4,18 @@
 use reference::pictures::Pile;
 use reference::*;
 
+mod broken;
 mod chains;
 mod copies;
 mod draw;
 mod names;
+mod offences;
 mod packed;
 mod tables;
 mod taken_out;
 mod weekly;
 
+use broken::{broken_rows, broken_rows_of_full_tables};
 use chains::chains;
 use copies::copies;
 use draw::*;
@@ -710,6 +713,9 @@ pub fn all(host: &mut dyn Host, seed: u64, scale: u64, families: &str) {
     if chosen("damaged") {
         damaged_tables(host, seed, part(200_000));
     }
+    if chosen("broken") {
+        broken_rows(host, seed, part(300));
+    }
     if chosen("edges") {
         edge_sizes(host, seed);
     }
@@ -718,6 +724,9 @@ pub fn all(host: &mut dyn Host, seed: u64, scale: u64, families: &str) {
     }
     if chosen("full") {
         full_tables(host, seed, part(8));
+    }
+    if chosen("broken_full") {
+        broken_rows_of_full_tables(host, seed);
     }
     if chosen("years") {
         hundred_years(host, seed, part(5_218), 261);

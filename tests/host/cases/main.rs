@@ -3,7 +3,7 @@
 //! L head branches records places names slab lend areas of these bytes
 //! Y head branches records places names slab lend a copy, laid onto these bytes
 //! F size result                             a fresh store
-//! B batch area stop answered request-bytes answer-bytes after    a batch
+//! B batch area stop answered request-bytes answer-bytes rows-read after    a batch
 //! C head branches records places names slab the lent areas as they must be
 //! E name                                    the end of a family
 //! N line                                    more to say of it
@@ -71,6 +71,7 @@ impl Host for Written {
         self.number(report.answered);
         self.number(report.request_bytes);
         self.number(report.answer_bytes);
+        self.number(report.rows_read);
         self.area(after);
     }
 

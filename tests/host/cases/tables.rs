@@ -209,6 +209,36 @@ pub fn drawn_full(draw: &mut Draw, sizes: &Sizes, table: u64) -> Areas {
     laid_out(draw, sizes, &rows, &pairs, &names, now, floor)
 }
 
+/// Sound tables with a gap before most branches, all of them below the floor, and nearly all rows in use; most records stand at
+/// the start or the end of a branch. A moment is in a branch or in a gap by the search of many rows alone.
+pub fn drawn_with_gaps(draw: &mut Draw, sizes: &Sizes) -> Areas {
+    let mut rows: Vec<(u64, u64, u64)> = Vec::new();
+    let mut next = 0;
+    let branch_count = sizes.branches - draw.below(3) as usize;
+    for row in 0..branch_count {
+        let start = if row == 0 { 0 } else { next + draw.below(4) };
+        let end = if row + 1 == branch_count { u64::from(OPEN_END) } else { start + draw.below(4) };
+        let cut = if row == 0 { 0 } else { rows[draw.below(row as u64) as usize].0 };
+        rows.push((start, end, cut));
+        next = end + 1;
+    }
+    let floor = rows[branch_count - 1].0;
+    let now = floor + 3;
+    let mut pairs = BTreeSet::new();
+    let record_count = sizes.records.min(sizes.places) - draw.below(3) as usize;
+    while pairs.len() < record_count {
+        let (start, end, _) = rows[draw.below(branch_count as u64) as usize];
+        let moment = match draw.below(3) {
+            0 => start,
+            1 => end.min(now),
+            _ => draw.within(start, end.min(now)),
+        };
+        pairs.insert((draw.below(u64::from(sizes.size)) as u32, moment as u32));
+    }
+    let names = drawn_names(draw, &rows, now, 5);
+    laid_out(draw, sizes, &rows, &pairs, &names, now, floor)
+}
+
 pub fn area_of(areas: &mut Areas, index: u64) -> &mut Vec<u8> {
     match index {
         0 => &mut areas.head,

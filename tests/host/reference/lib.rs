@@ -1,4 +1,4 @@
-//! The page history store of document 01, with change requests One to Four of document 02, written from
+//! The page history store of document 01, with change requests One to Five of document 02, written from
 //! these documents alone and as plainly as they read. It works on the same byte areas as the library that
 //! it is compared with: every number of head and tables is four bytes, most significant first. Each batch
 //! turns the bytes into rows, checks them, serves the requests on the rows and turns the rows back into
@@ -77,6 +77,7 @@ pub struct Report {
     pub answered: u64,
     pub request_bytes: u64,
     pub answer_bytes: u64,
+    pub rows_read: u64,
 }
 
 #[derive(Clone, Debug, PartialEq, Eq)]
@@ -342,37 +343,41 @@ impl Store {
         true
     }
 
-    fn records_sound(&self) -> bool {
+    /// Does the counted record row break a record rule, against the row before or by itself?
+    fn record_breaks(&self, row: usize) -> bool {
         let rows = self.counted_records();
-        for i in 0..rows.len() {
-            let record = rows[i];
-            // Strictly ascending by address, then moment.
-            if i > 0 && (rows[i - 1].address, rows[i - 1].moment) >= (record.address, record.moment) {
-                return false;
-            }
-            if record.address >= self.head.size {
-                return false;
-            }
-            if record.moment > self.head.now || self.branch_holding(record.moment).is_none() {
-                return false;
-            }
-            if record.place as usize >= self.places.len() || self.places[record.place as usize] as usize != i + 1 {
-                return false;
-            }
+        let record = rows[row];
+        // Strictly ascending by address, then moment.
+        if row > 0 && (rows[row - 1].address, rows[row - 1].moment) >= (record.address, record.moment) {
+            return true;
         }
-        self.places.iter().filter(|place| **place != 0).count() == rows.len()
+        if record.address >= self.head.size {
+            return true;
+        }
+        if record.moment > self.head.now || self.branch_holding(record.moment).is_none() {
+            return true;
+        }
+        record.place as usize >= self.places.len() || self.places[record.place as usize] as usize != row + 1
     }
 
-    /// The check before a batch: 0, or the refusal 1, 2 or 3, the lowest that holds.
-    fn check(&self) -> u32 {
+    fn places_in_use(&self) -> usize {
+        self.places.iter().filter(|place| **place != 0).count()
+    }
+
+    /// The check before a batch: 0, or the refusal 1, 2 or 3, the lowest that holds; and how many record rows it read
+    /// (document 02, Five): up to and including the first that breaks a rule, else all; 0 where 1 or 2 refuses.
+    fn check(&self) -> (u32, usize) {
         if !self.head_allowed() {
-            1
-        } else if !self.branches_sound() || !self.names_sound() {
-            2
-        } else if !self.records_sound() {
-            3
-        } else {
-            0
+            return (1, 0);
+        }
+        if !self.branches_sound() || !self.names_sound() {
+            return (2, 0);
+        }
+        let all = self.counted_records().len();
+        match (0..all).find(|row| self.record_breaks(*row)) {
+            Some(row) => (3, row + 1),
+            None if self.places_in_use() != all => (3, all),
+            None => (0, all),
         }
     }
 
@@ -863,12 +868,12 @@ pub fn batch_followed(
         return Report { stop: 1, ..Report::default() };
     }
     let mut store = rows_of(areas);
-    let refused = store.check();
+    let (refused, rows_read) = store.check();
+    let mut report = Report { stop: refused, rows_read: rows_read as u64, ..Report::default() };
     if refused != 0 {
         areas.slab = store.slab;
-        return Report { stop: refused, ..Report::default() };
+        return report;
     }
-    let mut report = Report::default();
     loop {
         let left = &batch[report.request_bytes as usize..];
         if left.is_empty() {

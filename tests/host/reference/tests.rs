@@ -145,7 +145,7 @@ fn whole_case_of_the_batch_program() {
     let mut store = made(64, 16, 128, 128);
     let mut area = vec![0; 65_536];
     let report = batch(&mut store, &input, &mut area);
-    assert_eq!(report, Report { stop: 0, answered: 3, request_bytes: 21, answer_bytes: 15 });
+    assert_eq!(report, Report { stop: 0, answered: 3, request_bytes: 21, answer_bytes: 15, rows_read: 0 });
     assert_eq!(area[..15], output);
 }
 
@@ -282,17 +282,20 @@ fn stops_11_to_14() {
     assert_eq!(stop(&[0xC0, 1, 0, 0, 0, 0, 0], 100).stop, 13);
     assert_eq!(stop(&[0xE0, 0, 0, 0, 0, 0, 0x20], 100).stop, 13);
     assert_eq!(stop(&withdraw(1), 4).stop, 14);
-    assert_eq!(stop(&withdraw(1), 5), Report { stop: 0, answered: 1, request_bytes: 15, answer_bytes: 5 });
+    assert_eq!(
+        stop(&withdraw(1), 5),
+        Report { stop: 0, answered: 1, request_bytes: 15, answer_bytes: 5, rows_read: 0 }
+    );
     assert_eq!(stop(&[0x40, 0, 0, 0, 0, 0, 1], 100).stop, 13);
     assert_eq!(stop(&[0x40, 0, 0, 0, 0, 0, 0x20], 100).stop, 13);
     assert_eq!(stop(&write(0, 1)[..262], 0).stop, 11);
     assert_eq!(stop(&mark(), 4), Report { stop: 14, ..Report::default() });
-    assert_eq!(stop(&mark(), 5), Report { stop: 0, answered: 1, request_bytes: 7, answer_bytes: 5 });
+    assert_eq!(stop(&mark(), 5), Report { stop: 0, answered: 1, request_bytes: 7, answer_bytes: 5, rows_read: 0 });
     let list = [write(0, 1), read(0, 0)].concat();
-    assert_eq!(stop(&list, 269), Report { stop: 14, answered: 1, request_bytes: 263, answer_bytes: 5 });
-    assert_eq!(stop(&list, 270), Report { stop: 0, answered: 2, request_bytes: 270, answer_bytes: 270 });
+    assert_eq!(stop(&list, 269), Report { stop: 14, answered: 1, request_bytes: 263, answer_bytes: 5, rows_read: 0 });
+    assert_eq!(stop(&list, 270), Report { stop: 0, answered: 2, request_bytes: 270, answer_bytes: 270, rows_read: 0 });
     // An absent page has no date, and its answer fits where any other without a page does.
-    assert_eq!(stop(&read(0, 0), 5), Report { stop: 0, answered: 1, request_bytes: 7, answer_bytes: 5 });
+    assert_eq!(stop(&read(0, 0), 5), Report { stop: 0, answered: 1, request_bytes: 7, answer_bytes: 5, rows_read: 0 });
     // A refusal that does not fit is a stop, too.
     assert_eq!(stop(&read(9, 0), 4).stop, 14);
     // A request that does not fit is not carried out.
@@ -887,4 +890,128 @@ fn rows_go_in_any_order() {
         }
     }
     assert!(gone > 3_000 && taken_over > 1_000, "{gone} rows gone, {taken_over} cuts taken over");
+}
+
+// ---------------------------------------------------------------------------------------------
+// Document 02, Five: how many record rows the table check reads
+
+/// Three records, a gap at 4 and 5, the floor at 6, now 9, and place 1 free.
+fn three_records() -> Areas {
+    let mut store = made(6, 2, 4, 4);
+    set_head(&mut store, [6, 2, 3, 9, 6, 0]);
+    set_branch(&mut store, 0, [0, 3, 0]);
+    set_branch(&mut store, 1, [6, OPEN_END, 3]);
+    for (index, number) in [1, 0, 2, 1, 3, 0, 4, 9, 3].into_iter().enumerate() {
+        set_number_at(&mut store.records, index, number);
+    }
+    for (place, number) in [2, 0, 1, 3].into_iter().enumerate() {
+        set_number_at(&mut store.places, place, number);
+    }
+    store
+}
+
+/// The result of a mark with this space, and the rows read.
+fn told_with(areas: &Areas, space: usize) -> (u32, u64) {
+    let report = batch(&mut areas.clone(), &mark(), &mut vec![0; space]);
+    (report.stop, report.rows_read)
+}
+
+fn told(areas: &Areas) -> (u32, u64) {
+    told_with(areas, 5)
+}
+
+/// The same with these numbers of the record table changed: row, which of its numbers, and what it becomes.
+fn told_of(changes: &[(usize, usize, u32)]) -> (u32, u64) {
+    let mut store = three_records();
+    for (row, number, value) in changes {
+        set_number_at(&mut store.records, 3 * row + number, *value);
+    }
+    told(&store)
+}
+
+#[test]
+fn rows_read_up_to_the_first_that_breaks_a_rule() {
+    assert_eq!(told_of(&[]), (0, 3));
+    // Address at A.
+    assert_eq!([0, 1, 2].map(|row| told_of(&[(row, 0, 6)])), [(3, 1), (3, 2), (3, 3)]);
+    assert_eq!((told_of(&[(2, 0, 5)]), told_of(&[(2, 0, 65_540)])), ((0, 3), (3, 3)));
+    // A moment in the gap, at its edges, at the floor, at now, after now.
+    assert_eq!([0, 1, 2].map(|row| told_of(&[(row, 1, 4)])), [(3, 1), (3, 2), (3, 3)]);
+    assert_eq!([3, 4, 5, 6].map(|moment| told_of(&[(2, 1, moment)])), [(0, 3), (3, 3), (3, 3), (0, 3)]);
+    assert_eq!([9, 10, OPEN_END].map(|moment| told_of(&[(1, 1, moment)])), [(0, 3), (3, 2), (3, 2)]);
+    // A place past the last; a free one; that of another record.
+    assert_eq!([4, 1, 3].map(|place| told_of(&[(0, 2, place)])), [(3, 1); 3]);
+    assert_eq!([4, 1, 0].map(|place| told_of(&[(2, 2, place)])), [(3, 3); 3]);
+    // The row before again; address falls; moment falls; both in the last row; an address that comes again at a later moment.
+    assert_eq!((told_of(&[(1, 1, 0)]), told_of(&[(1, 0, 0)])), ((3, 2), (3, 2)));
+    assert_eq!((told_of(&[(2, 0, 1), (2, 1, 2)]), told_of(&[(2, 0, 0)])), ((3, 3), (3, 3)));
+    assert_eq!(told_of(&[(2, 0, 1)]), (0, 3));
+}
+
+/// Of two rows the earlier one counts, whichever the rules.
+#[test]
+fn rows_read_of_two_that_break_a_rule() {
+    assert_eq!(told_of(&[(0, 0, 6), (2, 1, 10)]), (3, 1));
+    let order = (1, 1, 0);
+    assert_eq!([0, 1, 2].map(|row| told_of(&[order, (row, 2, 1)])), [(3, 1), (3, 2), (3, 2)]);
+}
+
+#[test]
+fn rows_read_where_places_are_wrong() {
+    let with = |place: usize, number: u32| {
+        let mut store = three_records();
+        set_number_at(&mut store.places, place, number);
+        told(&store)
+    };
+    // The number in use alone: all rows.
+    assert_eq!((with(1, 1), with(1, 4), with(1, 77)), ((3, 3), (3, 3), (3, 3)));
+    // The place rows of the records, in the order of the records.
+    assert_eq!([2, 0, 3].map(|place| with(place, 0)), [(3, 1), (3, 2), (3, 3)]);
+    assert_eq!((with(2, 2), with(0, 1), with(3, 4)), ((3, 1), (3, 2), (3, 3)));
+    // Another count: the last place is left over; it is free.
+    let mut store = three_records();
+    set_number_at(&mut store.head, 2, 2);
+    assert_eq!(told(&store), (3, 2));
+    set_number_at(&mut store.places, 3, 0);
+    assert_eq!(told(&store), (0, 2));
+    // No record.
+    set_number_at(&mut store.head, 2, 0);
+    assert_eq!(told(&store), (3, 0));
+    store.places.fill(0);
+    assert_eq!(told(&store), (0, 0));
+}
+
+#[test]
+fn rows_read_where_1_or_2_refuses() {
+    for first in [1, 6] {
+        let mut store = three_records();
+        set_number_at(&mut store.records, 0, first);
+        let with = |change: fn(&mut Areas)| {
+            let mut areas = store.clone();
+            change(&mut areas);
+            told(&areas)
+        };
+        assert_eq!(with(|areas| set_branch(areas, 1, [6, OPEN_END, 4])), (2, 0));
+        assert_eq!(with(|areas| set_number_at(&mut areas.head, 4, 5)), (2, 0));
+        assert_eq!(with(|areas| set_number_at(&mut areas.head, 5, 2)), (2, 0));
+        assert_eq!(with(|areas| set_number_at(&mut areas.head, 4, 10)), (1, 0));
+        assert_eq!(with(|areas| set_number_at(&mut areas.head, 2, 5)), (1, 0));
+        assert_eq!(with(|areas| areas.records.truncate(47)), (1, 0));
+        assert_eq!(with(|areas| areas.slab.push(0)), (1, 0));
+    }
+}
+
+/// The records counted before the batch, whatever it does and whatever ends it.
+#[test]
+fn rows_read_before_a_batch() {
+    let mut store = three_records();
+    assert_eq!((told_with(&store, 5), told_with(&store, 4)), ((0, 3), (14, 3)));
+    let mut area = [0; 20];
+    for (bytes, due) in [(vec![0x40, 0, 0], 11), (vec![0; 7], 12), (vec![0x40, 0, 0, 0, 0, 0, 1], 13)] {
+        let report = batch(&mut store.clone(), &[write(0, b'A'), bytes].concat(), &mut area);
+        assert_eq!((report.stop, report.answered, report.rows_read), (due, 1, 3));
+    }
+    assert_eq!(batch(&mut store, &write(0, b'A'), &mut area).rows_read, 3);
+    assert_eq!(batch(&mut store, &reclaim(9), &mut area).rows_read, 4);
+    assert_eq!(batch(&mut store, &[], &mut area).rows_read, u64::from(number_at(&store.head, 2)));
 }

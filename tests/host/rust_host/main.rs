@@ -40,6 +40,7 @@ extern "C" {
         answered: *mut u64,
         request_bytes: *mut u64,
         answer_bytes: *mut u64,
+        rows_read: *mut u64,
     ) -> u32;
 }
 
@@ -190,7 +191,14 @@ impl Host for RustHost {
         self.batch.fill(batch);
         self.answers.fill(before);
         let [head, branches, records, places, names, slab] = &mut self.lent;
-        let mut got = Report { stop: 0, answered: 77, request_bytes: 77, answer_bytes: 77 };
+        // Other numbers than are due: each count must be written.
+        let mut got = Report {
+            stop: 0,
+            answered: !report.answered,
+            request_bytes: !report.request_bytes,
+            answer_bytes: !report.answer_bytes,
+            rows_read: !report.rows_read,
+        };
         got.stop = unsafe {
             kizmoolet_batch(
                 head.address(),
@@ -212,6 +220,7 @@ impl Host for RustHost {
                 &mut got.answered,
                 &mut got.request_bytes,
                 &mut got.answer_bytes,
+                &mut got.rows_read,
             )
         };
         self.counts.stops[got.stop as usize % NUMBERS] += 1;

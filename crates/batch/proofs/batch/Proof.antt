@@ -1,10 +1,11 @@
-use mathlib.Core.Path.{_≡_, sym, _∙_}
+use mathlib.Core.Path.{_≡_, ap, sym, _∙_}
 use Prim.Native.Nat.{_≤_}
 use native.Mathlib.Omega.{arith}
 use lib.ListN.{length}
 use Rattle.model.specs.Store.{open-end}
 use Rattle.rows.specs.View.{Tables, tables}
-use Rattle.soundness.specs.Check.{checkOf}
+use Rattle.soundness.specs.Check.{checkOf, readOf}
+use Rattle.record_check.specs.declared.Finding.{Finding}
 use Rattle.soundness.proofs.Checked.{checked-sound}
 use Rattle.batch.proofs.Lent.{refused-leaves, batch-checked, batch-unchecked}
 use borrow.Author.Needs.{needs}
@@ -26,11 +27,14 @@ slice-known3-from-check-arg c = c .before .before .before .before .before
 abbrev check-arg-from-check-arg3 : tie.After-check-arg3 → tie.After-check-arg
 check-arg-from-check-arg3 c = c .before .before
 
+abbrev start-from-check : tie.After-check → tie.Start
+start-from-check c = (slice-known3-from-check-arg (check-arg-from-check-arg3 (c .before .before .before))) .before .before .before
+
 abbrev start-from-else1 : tie.Else1 → tie.Start
-start-from-else1 c = (slice-known3-from-check-arg (check-arg-from-check-arg3 (c .before .before .before .before))) .before .before .before
+start-from-else1 c = start-from-check (c .before .before)
 
 abbrev start-from-report : tie.After-report → tie.Start
-start-from-report c = (slice-known3-from-check-arg (check-arg-from-check-arg3 (c .before .before .before .before .before))) .before .before .before
+start-from-report c = start-from-check (c .before .before .before)
 
 abbrev else1-from-run-arg2 : tie.After-run-arg2 → tie.Else1
 else1-from-run-arg2 c = c .before .before
@@ -44,15 +48,16 @@ else1-from-slice-known12 c = else1-from-run-arg6 ((run-from-slice-known12 c) .be
 abbrev start-from-run-arg6 : tie.After-run-arg6 → tie.Start
 start-from-run-arg6 c = start-from-else1 (else1-from-run-arg6 c)
 
-abbrev start-from-slice-known12 : tie.After-slice-known12 → tie.Start
-start-from-slice-known12 c = start-from-else1 (else1-from-slice-known12 c)
-
 abbrev lent : tie.Start → Tables
 lent s = tables (s .args .bt .now) (s .args .rt .now) (s .args .pt .now) (s .args .nt .now) (s .args .slab .now)
 
+-- the refusal and the rows read of what is lent
+found : (c : tie.After-check) → (c .check .result .refusal ≡ checkOf ((start-from-check c) .args .head) (lent (start-from-check c))) × (c .check .result .rows ≡ readOf ((start-from-check c) .args .head) (lent (start-from-check c)))
+found c = (ap (λ (f : Finding). f .refusal) (c .check .ensures), ap (λ (f : Finding). f .rows) (c .check .ensures))
+
 -- the tables passed
 checked : (c : tie.Else1) → checkOf ((start-from-else1 c) .args .head) (lent (start-from-else1 c)) ≡ 0
-checked c = sym (c .before .check .ensures) ∙ c .if1 .left
+checked c = sym (found (c .before .before) .0) ∙ c .if1 .left
 
 check-requires : tie.Need-check-requires
 check-requires c κs = search needs
@@ -77,9 +82,12 @@ same-length-5 c = search needs
 
 returns : tie.Need-returns
 returns c =
-    let s = start-from-report c in
-    rw (c .report .ensures, batch-unchecked (s .args .head) (lent s) (s .args .input .now) (length (s .args .answers .now)) (c .before .before .check .result) (c .before .before .check .ensures) (c .before .if1 .taken))
-    (refused-leaves (s .args .head) (lent s) (s .args .answers .now) (c .before .before .check .result))
+    let d = c .before .before .before in
+    let s = start-from-check d in (
+      rw (c .report .ensures, batch-unchecked (s .args .head) (lent s) (s .args .input .now) (length (s .args .answers .now)) (d .check .result .refusal) (found d .0) (c .before .if1 .taken))
+          (refused-leaves (s .args .head) (lent s) (s .args .answers .now) (d .check .result .refusal)),
+      found d .1,
+    )
 
 run-requires : tie.Need-run-requires
 run-requires c κs =
@@ -107,8 +115,11 @@ same-length-11 c = search needs
 
 returns-2 : tie.Need-returns-2
 returns-2 c =
-    let s = start-from-slice-known12 c in
-    rw (batch-checked (s .args .head) (lent s) (s .args .input .now) (length (s .args .answers .now)) (checked (else1-from-slice-known12 c))) ((run-from-slice-known12 c) .run .ensures)
+    let e = else1-from-slice-known12 c in
+    let s = start-from-else1 e in (
+      rw (batch-checked (s .args .head) (lent s) (s .args .input .now) (length (s .args .answers .now)) (checked e)) ((run-from-slice-known12 c) .run .ensures),
+      found (e .before .before) .1,
+    )
 
 pub batch-spec : {M : Type 1} → statement M
 batch-spec =

@@ -5,7 +5,8 @@ use denote.Ref.{now}
 use borrow.Author.Needs.{needs}
 use Rattle.model.specs.Store.{open-end}
 use Rattle.rows.specs.View.{Tables, tables, numberTables, withSlab}
-use Rattle.soundness.specs.Check.{checkOf}
+use Rattle.soundness.specs.Check.{checkOf, readOf}
+use Rattle.record_check.specs.declared.Finding.{Finding}
 use Rattle.soundness.proofs.Checked.{checked-sound}
 use Rattle.tables.specs.Tables.{numbersIn, Room}
 use Rattle.kizmoolet.proofs.Areas.{room-kept}
@@ -16,7 +17,7 @@ abbrev load-checked-from-pt : tie.After-pt → tie.After-load-checked
 load-checked-from-pt c = c .before .before .before .before .before
 
 abbrev load-checked-from-else1 : tie.Else1 → tie.After-load-checked
-load-checked-from-else1 c = load-checked-from-pt (c .before .before .before .before)
+load-checked-from-else1 c = load-checked-from-pt (c .before .before .before .before .before)
 
 abbrev else1-from-run-saved-arg5 : tie.After-run-saved-arg5 → tie.Else1
 else1-from-run-saved-arg5 c = c .before .before .before .before .before
@@ -65,9 +66,12 @@ loaded c =
     let k = (load-checked-from-else1 c) .load-checked .kept in
     room-kept ((start-from-else1 c) .pre) (k .1 .1 .1 .1 .1 .1 .0) (k .1 .1 .1 .1 .1 .1 .1 .0) (k .1 .1 .1 .1 .1 .1 .1 .1 .0) (k .1 .1 .1 .1 .1 .1 .1 .1 .1 .0)
 
--- the tables passed
+-- the tables passed, and so many rows were read
 checked : (c : tie.Else1) → checkOf ((start-from-else1 c) .args .head) (numbersIn (bytes (start-from-else1 c))) ≡ 0
-checked c = sym ((load-checked-from-else1 c) .load-checked .ensures .0) ∙ c .if1 .left
+checked c = sym (ap (λ (f : Finding). f .refusal) ((load-checked-from-else1 c) .load-checked .ensures .0)) ∙ c .if1 .left
+
+read : (c : tie.Else1) → (load-checked-from-else1 c) .load-checked .result .rows ≡ readOf ((start-from-else1 c) .args .head) (numbersIn (bytes (start-from-else1 c)))
+read c = ap (λ (f : Finding). f .rows) ((load-checked-from-else1 c) .load-checked .ensures .0)
 
 load-checked-requires : tie.Need-load-checked-requires
 load-checked-requires c κs = search needs
@@ -149,7 +153,9 @@ same-length-19 c =
     (run-saved-from-slice-known24 c) .run-saved .kept .1 .1 .1 .1 .1 .1 .1 .1 .1 .1 .1 .0 ∙ (load-checked-from-else1 p) .load-checked .kept .1 .1 .1 .1 .1 .1 .1 .1 .1 .0
 
 returns-2 : tie.Need-returns-2
-returns-2 c = (checked (else1-from-slice-known24 c), (run-saved-from-slice-known24 c) .run-saved .ensures)
+returns-2 c =
+    let p = else1-from-slice-known24 c in
+    (checked p, read p, (run-saved-from-slice-known24 c) .run-saved .ensures)
 
 pub batch-tables-spec : {M : Type 1} → statement M
 batch-tables-spec =

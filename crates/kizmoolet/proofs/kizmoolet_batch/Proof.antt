@@ -19,8 +19,8 @@ batch-areas-from-records c = c .before .before .before .before .before
 abbrev batch-areas-from-slice-known12 : tie.After-slice-known12 → tie.After-batch-areas
 batch-areas-from-slice-known12 c = batch-areas-from-records (c .before .before .before .before .before)
 
-abbrev batch-areas-from-slice-known14 : tie.After-slice-known14 → tie.After-batch-areas
-batch-areas-from-slice-known14 c = batch-areas-from-slice-known12 (c .before .before .before .before)
+abbrev batch-areas-from-done : tie.After-done → tie.After-batch-areas
+batch-areas-from-done c = batch-areas-from-slice-known12 (c .before .before .before .before .before)
 
 lengths-fit-requires : tie.Need-lengths-fit-requires
 lengths-fit-requires c κs = tt
@@ -32,28 +32,28 @@ batch-areas-requires : tie.Need-batch-areas-requires
 batch-areas-requires c κs = sym ((lengths-fit-from-batch-areas-arg7 c) .lengths-fit .ensures) ∙ not-false _ ((else1-from-batch-areas-arg7 c) .if1 .left)
 
 same-length : tie.Need-same-length
-same-length c = (batch-areas-from-slice-known14 c) .batch-areas .kept .0
+same-length c = (batch-areas-from-done c) .batch-areas .kept .0
 
 same-length-2 : tie.Need-same-length-2
-same-length-2 c = (batch-areas-from-slice-known14 c) .batch-areas .kept .1 .0
+same-length-2 c = (batch-areas-from-done c) .batch-areas .kept .1 .0
 
 same-length-3 : tie.Need-same-length-3
-same-length-3 c = (batch-areas-from-slice-known14 c) .batch-areas .kept .1 .1 .0
+same-length-3 c = (batch-areas-from-done c) .batch-areas .kept .1 .1 .0
 
 same-length-4 : tie.Need-same-length-4
-same-length-4 c = (batch-areas-from-slice-known14 c) .batch-areas .kept .1 .1 .1 .0
+same-length-4 c = (batch-areas-from-done c) .batch-areas .kept .1 .1 .1 .0
 
 same-length-5 : tie.Need-same-length-5
-same-length-5 c = (batch-areas-from-slice-known14 c) .batch-areas .kept .1 .1 .1 .1 .0
+same-length-5 c = (batch-areas-from-done c) .batch-areas .kept .1 .1 .1 .1 .0
 
 same-length-6 : tie.Need-same-length-6
-same-length-6 c = (batch-areas-from-slice-known14 c) .batch-areas .kept .1 .1 .1 .1 .1 .0
+same-length-6 c = (batch-areas-from-done c) .batch-areas .kept .1 .1 .1 .1 .1 .0
 
 same-length-7 : tie.Need-same-length-7
-same-length-7 c = (batch-areas-from-slice-known14 c) .batch-areas .kept .1 .1 .1 .1 .1 .1 .1 .0
+same-length-7 c = (batch-areas-from-done c) .batch-areas .kept .1 .1 .1 .1 .1 .1 .1 .0
 
 returns-2 : tie.Need-returns-2
-returns-2 c = (batch-areas-from-slice-known14 c) .batch-areas .ensures
+returns-2 c = (batch-areas-from-done c) .batch-areas .ensures
 
 pub kizmoolet-batch-spec : {M : Type 1} → statement M
 kizmoolet-batch-spec =

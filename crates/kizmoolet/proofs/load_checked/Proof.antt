@@ -2,7 +2,7 @@ use mathlib.Core.Path.{ap, _∙_}
 use denote.Ref.{now}
 use borrow.Author.Needs.{needs}
 use Rattle.rows.specs.View.{Tables, withSlab}
-use Rattle.soundness.specs.Check.{checkOf}
+use Rattle.soundness.specs.Check.{findingOf}
 use Rattle.kizmoolet.proofs.load_checked.Statement.{statement}
 use Rattle.kizmoolet.proofs.load_checked.Tie as tie
 
@@ -45,7 +45,7 @@ same-length-4 c = search needs
 returns : tie.Need-returns
 returns c =
     let e = (load-from-check c) .load .ensures in
-    (c .check .ensures ∙ ap (λ (t : Tables). checkOf ((start-from-check c) .args .head) (withSlab (now ((start-from-check c) .args .slab)) t)) e, e)
+    (c .check .ensures ∙ ap (λ (t : Tables). findingOf ((start-from-check c) .args .head) (withSlab (now ((start-from-check c) .args .slab)) t)) e, e)
 
 pub load-checked-spec : {M : Type 1} → statement M
 load-checked-spec =

@@ -1,8 +1,8 @@
-use mathlib.Core.Path.{sym}
+use mathlib.Core.Path.{sym, _∙_}
 use Prim.Native.Nat.{_*_}
 use lib.Seq.{length-take-le}
 use Rattle.rows.specs.Rows.{branchWidth, BranchesIn}
-use Rattle.lent.proofs.Lending.{rest-stays, batch-back}
+use Rattle.lent.proofs.Lending.{read-front, rest-stays, batch-back}
 use borrow.Author.Needs.{needs}
 use Rattle.lent.proofs.batch_rows.Statement.{statement}
 use Rattle.lent.proofs.batch_rows.Tie as tie
@@ -24,7 +24,7 @@ abbrev ran-from-slab : tie.After-slab → tie.After-batch
 ran-from-slab c = ran-from-slice-known8 (c .before .before .before .before .before)
 
 abbrev ran : tie.After-after → tie.After-batch
-ran c = ran-from-slab (c .before .before .before .before)
+ran c = ran-from-slab (c .before .before .before .before .before)
 
 abbrev start-from-batch-arg2 : tie.After-batch-arg2 → tie.Start
 start-from-batch-arg2 c = handed (c .before)
@@ -67,8 +67,11 @@ returns c =
     let s = (start c) .args in
     let d = (ran c) .batch in
     let fits : BranchesIn (s .count) (s .table .now) = (start c) .pre in (
-      rest-stays (s .count) (s .table .now) fits (s .rt .now) (s .pt .now) (s .nt .now) (s .slab .now) (d .last .1 .0) (same-length c),
-      batch-back (s .count) (s .table .now) fits (s .rt .now) (s .pt .now) (s .nt .now) (s .slab .now) (d .last .1 .0) (same-length c) (s .head) (s .input .now) (s .answers .now) (d .ensures),
+      (
+        rest-stays (s .count) (s .table .now) fits (s .rt .now) (s .pt .now) (s .nt .now) (s .slab .now) (d .last .1 .0) (same-length c),
+        batch-back (s .count) (s .table .now) fits (s .rt .now) (s .pt .now) (s .nt .now) (s .slab .now) (d .last .1 .0) (same-length c) (s .head) (s .input .now) (s .answers .now) (d .ensures .0),
+      ),
+      d .ensures .1 ∙ read-front (s .count) (s .table .now) fits (s .rt .now) (s .pt .now) (s .nt .now) (s .slab .now) (s .head),
     )
 
 pub batch-rows-spec : {M : Type 1} → statement M

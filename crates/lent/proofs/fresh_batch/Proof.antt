@@ -51,10 +51,11 @@ use Rattle.model.specs.declared.Head.{Head}
 use Rattle.model.specs.Store.{zero-branch}
 use Rattle.lent.specs.declared.Report.{Report}
 use Rattle.lent.specs.declared.Ended.{Ended}
-use Rattle.lent.specs.Lent.{lent, lentBatch, BatchLeaves, FreshLeaves, zeroRows, freshBatch}
+use Rattle.lent.specs.Lent.{lent, lentBatch, lentRead, BatchLeaves, FreshLeaves, zeroRows, freshBatch, freshRead}
 use Rattle.lent.proofs.Again.{LentAgain, lends-again, comes-back, LentShared, lends-shared, shared-back}
+use Rattle.lent.proofs.Ifs.{says-both}
 use Rattle.lent.proofs.Local.{repeat-val, repeat-typed, repeat-own, here, at-list, array-in, array-out, lends-local, local-back}
-use Rattle.lent.proofs.Starting.{then-batch}
+use Rattle.lent.proofs.Starting.{then-batch, read-made}
 use Rattle.model.proofs.Branch as B
 use Rattle.model.proofs.Branch.Laws as B′
 use Rattle.model.proofs.Head as T
@@ -185,14 +186,17 @@ module _ {M : Type 1} (𝓤 : URA M) (H : Heap 𝓤) (A : Atoms 𝓤) (W : Given
   abbrev Ran : Head → List Branch → List ℕ → List ℕ → List ℕ → Report → Head → List Branch → List ℕ → List ℕ → List ℕ → List ℕ → List ℕ → Type 0
   Ran h₁ b₁ rt₁ pt₁ nt₁ r h₂ b₂ rt₂ pt₂ nt₂ slab₂ answers₂ = BatchLeaves (lentBatch h₁ (lent b₁ rt₁ pt₁ nt₁ slab) input (length answers)) (lent b₁ rt₁ pt₁ nt₁ slab) answers r h₂ (lent b₂ rt₂ pt₂ nt₂ slab₂) answers₂
 
+  abbrev Read : Head → List Branch → List ℕ → List ℕ → List ℕ → Report → Type 0
+  Read h₁ b₁ rt₁ pt₁ nt₁ r = r .rows ≡ lentRead h₁ (lent b₁ rt₁ pt₁ nt₁ slab)
+
   abbrev out : Head → Report → Ended
   out h′ r = record { head = h′; report = r }
 
-  exits : (h′ : Head) (r : Report) (z-rt z-pt z-nt z-slab z-answers : List ℕ) → Said h′ r z-rt z-pt z-nt z-slab z-answers → length z-rt ≡ length rt → length z-pt ≡ length pt → length z-nt ≡ length nt → length z-slab ≡ length slab → length z-answers ≡ length answers
+  exits : (h′ : Head) (r : Report) (z-rt z-pt z-nt z-slab z-answers : List ℕ) → Said h′ r z-rt z-pt z-nt z-slab z-answers → r .rows ≡ freshRead size (zeroRows rt pt nt slab) → length z-rt ≡ length rt → length z-pt ≡ length pt → length z-nt ≡ length nt → length z-slab ≡ length slab → length z-answers ≡ length answers
       → Is O.the-row (out h′ r) (O′.lowered (out h′ r) ∷ []) → ent 𝓤 (⋆ 𝓤 H A ((‵ (flft κ₀ q₀) ⊛ ‵ (flft κ₁ q₁) ⊛ ‵ (flft κ₂ q₂) ⊛ ‵ (flft κ₃ q₃) ⊛ ‵ (flft κ₄ q₄) ⊛ ‵ (flft κ₅ q₅) ⊛ ‵ ftrue) ∷ ‵ (finally u32 γ₁ z-rt) ∷ ‵ (finally u32 γ₂ z-pt) ∷ ‵ (finally u32 γ₃ z-nt) ∷ ‵ (finally u8 γ₄ z-slab) ∷ ‵ (ShrSlice (named 4) κ₄ u8 .own (x₅ γ₅ input) (s₅ ∷ [])) ∷ ‵ (finally u8 γ₆ z-answers) ∷ [])) (Post (O′.lowered (out h′ r)))
-  exits h′ r z-rt z-pt z-nt z-slab z-answers said same-rt same-pt same-nt same-slab same-answers is =
+  exits h′ r z-rt z-pt z-nt z-slab z-answers said read same-rt same-pt same-nt same-slab same-answers is =
       qed W ((‵ (flft κ₀ q₀) ⊛ ‵ (flft κ₁ q₁) ⊛ ‵ (flft κ₂ q₂) ⊛ ‵ (flft κ₃ q₃) ⊛ ‵ (flft κ₄ q₄) ⊛ ‵ (flft κ₅ q₅) ⊛ ‵ ftrue) ∷ ‵ (finally u32 γ₁ z-rt) ∷ ‵ (finally u32 γ₂ z-pt) ∷ ‵ (finally u32 γ₃ z-nt) ∷ ‵ (finally u8 γ₄ z-slab) ∷ ‵ (ShrSlice (named 4) κ₄ u8 .own (x₅ γ₅ input) (s₅ ∷ [])) ∷ ‵ (finally u8 γ₆ z-answers) ∷ []) ∵
-      suffices ! _ (ends-at 𝓤 H A f.ended stayed (f.clauses 𝓤 H A at-mem run) W (((κ₀, (κ₁, (κ₂, (κ₃, (κ₄, (κ₅, tt)))))), (q₀, (q₁, (q₂, (q₃, (q₄, (q₅, tt)))))), tt, a, at), tt) (O′.lowered (out h′ r)) (out h′ r) (tt, (z-rt, (z-pt, (z-nt, (z-slab, (tt, (z-answers, tt))))))) (tt, (same-rt, (same-pt, (same-nt, (same-slab, (tt, (same-answers, tt)))))))) $ says ! said $ frame ! $
+      suffices ! _ (ends-at 𝓤 H A f.ended stayed (f.clauses 𝓤 H A at-mem run) W (((κ₀, (κ₁, (κ₂, (κ₃, (κ₄, (κ₅, tt)))))), (q₀, (q₁, (q₂, (q₃, (q₄, (q₅, tt)))))), tt, a, at), tt) (O′.lowered (out h′ r)) (out h′ r) (tt, (z-rt, (z-pt, (z-nt, (z-slab, (tt, (z-answers, tt))))))) (tt, (same-rt, (same-pt, (same-nt, (same-slab, (tt, (same-answers, tt)))))))) $ says-both ! said read $ frame ! $
       nothing ! $
       move ! (6 ∷ 0 ∷ []) $
       fjoin ! $
@@ -506,10 +510,13 @@ module _ {M : Type 1} (𝓤 : URA M) (H : Heap 𝓤) (A : Atoms 𝓤) (W : Given
         pick ! (λ r.
         split ! $
         move ! (1 ∷ []) $
-        use1 W (some (λ (ys : Head × (List Branch × (List ℕ × (List ℕ × (List ℕ × (List ℕ × (Unit {0} × (List ℕ × Unit {0})))))))). ‵ (lasts rn.ended (μ₁ ∷ [], (μ₂ ∷ [], (κ₀, (κ₁, (κ₂, (κ₃, (κ₄, (κ₅, tt)))))))) (x l₈ l₁₀ ε₁ (zs .0), (at-list l₁₀ ε₂ (zs .1 .1 .0), ((x₁ γ₁ (zs .1 .1 .1 .0)), ((x₂ γ₂ (zs .1 .1 .1 .1 .0)), ((x₃ γ₃ (zs .1 .1 .1 .1 .1 .0)), ((x₄ γ₄ slab), ((x₅ γ₅ input), ((x₆ γ₆ answers), tt)))))))) ys) ⊛ raw (fact 𝓤 (Ran (zs .0) (zs .1 .1 .0) (zs .1 .1 .1 .0) (zs .1 .1 .1 .1 .0) (zs .1 .1 .1 .1 .1 .0) r (ys .0) (ys .1 .0) (ys .1 .1 .0) (ys .1 .1 .1 .0) (ys .1 .1 .1 .1 .0) (ys .1 .1 .1 .1 .1 .0) (ys .1 .1 .1 .1 .1 .1 .1 .0))))) (id⊢ 𝓤 _) $
+        use1 W (some (λ (ys : Head × (List Branch × (List ℕ × (List ℕ × (List ℕ × (List ℕ × (Unit {0} × (List ℕ × Unit {0})))))))). ‵ (lasts rn.ended (μ₁ ∷ [], (μ₂ ∷ [], (κ₀, (κ₁, (κ₂, (κ₃, (κ₄, (κ₅, tt)))))))) (x l₈ l₁₀ ε₁ (zs .0), (at-list l₁₀ ε₂ (zs .1 .1 .0), ((x₁ γ₁ (zs .1 .1 .1 .0)), ((x₂ γ₂ (zs .1 .1 .1 .1 .0)), ((x₃ γ₃ (zs .1 .1 .1 .1 .1 .0)), ((x₄ γ₄ slab), ((x₅ γ₅ input), ((x₆ γ₆ answers), tt)))))))) ys) ⊛ raw (fact 𝓤 (Ran (zs .0) (zs .1 .1 .0) (zs .1 .1 .1 .0) (zs .1 .1 .1 .1 .0) (zs .1 .1 .1 .1 .1 .0) r (ys .0) (ys .1 .0) (ys .1 .1 .0) (ys .1 .1 .1 .0) (ys .1 .1 .1 .1 .0) (ys .1 .1 .1 .1 .1 .0) (ys .1 .1 .1 .1 .1 .1 .1 .0))) ⊛ raw (fact 𝓤 (Read (zs .0) (zs .1 .1 .0) (zs .1 .1 .1 .0) (zs .1 .1 .1 .1 .0) (zs .1 .1 .1 .1 .1 .0) r)))) (id⊢ 𝓤 _) $
         pick ! (λ ys.
         split ! $
         move ! (1 ∷ []) $
+        split ! $
+        move ! (1 ∷ []) $
+        heard ! (Read (zs .0) (zs .1 .1 .0) (zs .1 .1 .1 .0) (zs .1 .1 .1 .1 .0) (zs .1 .1 .1 .1 .1 .0) r) (λ read.
         heard ! (Ran (zs .0) (zs .1 .1 .0) (zs .1 .1 .1 .0) (zs .1 .1 .1 .1 .0) (zs .1 .1 .1 .1 .1 .0) r (ys .0) (ys .1 .0) (ys .1 .1 .0) (ys .1 .1 .1 .0) (ys .1 .1 .1 .1 .0) (ys .1 .1 .1 .1 .1 .0) (ys .1 .1 .1 .1 .1 .1 .1 .0)) (λ ran.
         fsplit ! $
         move ! (1 ∷ []) $
@@ -690,7 +697,7 @@ module _ {M : Type 1} (𝓤 : URA M) (H : Heap 𝓤) (A : Atoms 𝓤) (W : Given
         free1 ! $
         free0 ! $
         keep ! (0 ∷ 5 ∷ 4 ∷ 3 ∷ 2 ∷ 6 ∷ 1 ∷ []) $
-        by ! (exits (ys .0) r (ys .1 .1 .0) (ys .1 .1 .1 .0) (ys .1 .1 .1 .1 .0) (ys .1 .1 .1 .1 .1 .0) (ys .1 .1 .1 .1 .1 .1 .1 .0) (then-batch size (zeroRows rt pt nt slab) r₁ (zs .0) (lent (zs .1 .1 .0) (zs .1 .1 .1 .0) (zs .1 .1 .1 .1 .0) (zs .1 .1 .1 .1 .1 .0) slab) same-rt₁ same-nt₁ made input answers r (ys .0) (lent (ys .1 .0) (ys .1 .1 .0) (ys .1 .1 .1 .0) (ys .1 .1 .1 .1 .0) (ys .1 .1 .1 .1 .1 .0)) (ys .1 .1 .1 .1 .1 .1 .1 .0) ran) (same-rt₂ ∙ same-rt₁) (same-pt₂ ∙ same-pt₁) (same-nt₂ ∙ same-nt₁) same-slab₂ same-answers₂ (out-is (ys .0) r now-is (q-is r is))))))))))))))))))))))))))))))))))))))))))))))))))))))))))))))))))))))))))))))
+        by ! (exits (ys .0) r (ys .1 .1 .0) (ys .1 .1 .1 .0) (ys .1 .1 .1 .1 .0) (ys .1 .1 .1 .1 .1 .0) (ys .1 .1 .1 .1 .1 .1 .1 .0) (then-batch size (zeroRows rt pt nt slab) r₁ (zs .0) (lent (zs .1 .1 .0) (zs .1 .1 .1 .0) (zs .1 .1 .1 .1 .0) (zs .1 .1 .1 .1 .1 .0) slab) same-rt₁ same-nt₁ made input answers r (ys .0) (lent (ys .1 .0) (ys .1 .1 .0) (ys .1 .1 .1 .0) (ys .1 .1 .1 .1 .0) (ys .1 .1 .1 .1 .1 .0)) (ys .1 .1 .1 .1 .1 .1 .1 .0) ran) (read ∙ read-made size (zeroRows rt pt nt slab) r₁ (zs .0) (lent (zs .1 .1 .0) (zs .1 .1 .1 .0) (zs .1 .1 .1 .1 .0) (zs .1 .1 .1 .1 .1 .0) slab) same-rt₁ same-nt₁ made) (same-rt₂ ∙ same-rt₁) (same-pt₂ ∙ same-pt₁) (same-nt₂ ∙ same-nt₁) same-slab₂ same-answers₂ (out-is (ys .0) r now-is (q-is r is)))))))))))))))))))))))))))))))))))))))))))))))))))))))))))))))))))))))))))))))
 
 module _ {M : Type 1} (𝓤 : URA M) (H : Heap 𝓤) (A : Atoms 𝓤) (W : Given 𝓤 H A) (at-mem : Memory → SProp 𝓤) (run : Routine → Fun 𝓤) (𝓣 : Tables 𝓤 H) (known-make : Triple 𝓤 (𝓣 .C #lent·make-fresh) (Mk 𝓤 H A at-mem run)) (known-run : Triple 𝓤 (𝓣 .C #lent·run-batch) (Rn 𝓤 H A at-mem run)) where
   f-walks : Walks 𝓤 H A f.ended stayed (WpFn 𝓤 H (𝓣 .C) (𝓣 .Λ) code.function) (f.clauses 𝓤 H A at-mem run)

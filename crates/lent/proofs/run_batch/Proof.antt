@@ -55,10 +55,10 @@ use Rattle.model.specs.declared.Head.{Head}
 use Rattle.rows.specs.Rows.{branchWidth, branchRowsOf}
 use Rattle.lent.specs.declared.Report.{Report}
 use Rattle.lent.specs.declared.Ended.{Ended}
-use Rattle.lent.specs.Lent.{lent, lentBatch, BatchLeaves}
-use Rattle.lent.proofs.Lending.{many-batch-leaves}
+use Rattle.lent.specs.Lent.{lent, lentBatch, lentRead, BatchLeaves}
+use Rattle.lent.proofs.Lending.{many-batch-leaves, many-read}
 use Rattle.lent.proofs.Again.{LentShared, lends-shared, shared-back}
-use Rattle.lent.proofs.Ifs.{falls, enters, gives-slice}
+use Rattle.lent.proofs.Ifs.{falls, enters, gives-slice, says-both}
 use Rattle.lent.proofs.Local.{repeat-val, repeat-typed, repeat-own, here, at-list, array-in, array-out, lends-local, lends-local-shr, local-back, big-lit}
 use Rattle.lent.proofs.Table.{Ld, St, N, n-room, zeros, zero-is, full, full-fit, full-rows, to-load, goes-load, to-store, goes-store}
 use Rattle.model.proofs.Branch as B
@@ -163,11 +163,15 @@ module _ {M : Type 1} (𝓤 : URA M) (H : Heap 𝓤) (A : Atoms 𝓤) (W : Given
   abbrev Said : Report → Head → List Branch → List ℕ → List ℕ → List ℕ → List ℕ → List ℕ → Type 0
   Said r h′ zr z-rt z-pt z-nt z-slab z-answers = BatchLeaves (lentBatch h (lent ys rt pt nt slab) input (length answers)) (lent ys rt pt nt slab) answers r h′ (lent zr z-rt z-pt z-nt z-slab) z-answers
 
-  exits : (r : Report) (h′ : Head) (zr : List Branch) (z-rt : List ℕ) (z-pt : List ℕ) (z-nt : List ℕ) (z-slab : List ℕ) (z-answers : List ℕ) → Said r h′ zr z-rt z-pt z-nt z-slab z-answers → length zr ≡ length ys → length z-rt ≡ length rt → length z-pt ≡ length pt → length z-nt ≡ length nt → length z-slab ≡ length slab → length z-answers ≡ length answers → Is Q.the-row r (Q′.lowered r ∷ [])
+  -- and of the rows read
+  abbrev Read : List Branch → Report → Type 0
+  Read rows r = r .rows ≡ lentRead h (lent rows rt pt nt slab)
+
+  exits : (r : Report) (h′ : Head) (zr : List Branch) (z-rt : List ℕ) (z-pt : List ℕ) (z-nt : List ℕ) (z-slab : List ℕ) (z-answers : List ℕ) → Said r h′ zr z-rt z-pt z-nt z-slab z-answers → Read ys r → length zr ≡ length ys → length z-rt ≡ length rt → length z-pt ≡ length pt → length z-nt ≡ length nt → length z-slab ≡ length slab → length z-answers ≡ length answers → Is Q.the-row r (Q′.lowered r ∷ [])
       → ent 𝓤 (⋆ 𝓤 H A (‵ (fobs γ₀ (R .coded .code h′)) ∷ ‵ (fbor κ₀ (Body (mem R) b₀ o₀ γ₀)) ∷ ‵ (flft κ₀ q₀) ∷ ‵ (flft κ₁ q₁) ∷ (‵ (flft κ₂ q₂) ⊛ ‵ (flft κ₃ q₃) ⊛ ‵ (flft κ₄ q₄) ⊛ ‵ (flft κ₅ q₅) ⊛ ‵ (flft κ₆ q₆) ⊛ ‵ (flft κ₇ q₇) ⊛ ‵ ftrue) ∷ ‵ (finally S γ₁ zr) ∷ ‵ (finally u32 γ₂ z-rt) ∷ ‵ (finally u32 γ₃ z-pt) ∷ ‵ (finally u32 γ₄ z-nt) ∷ ‵ (finally u8 γ₅ z-slab) ∷ ‵ (finally u8 γ₇ z-answers) ∷ ‵ (ShrSlice (named 6) κ₆ u8 .own x₆ (s₆ ∷ [])) ∷ [])) (Post (Q′.lowered r))
-  exits r h′ zr z-rt z-pt z-nt z-slab z-answers said same-rows same-rt same-pt same-nt same-slab same-answers is =
+  exits r h′ zr z-rt z-pt z-nt z-slab z-answers said read same-rows same-rt same-pt same-nt same-slab same-answers is =
       qed W (‵ (fobs γ₀ (R .coded .code h′)) ∷ ‵ (fbor κ₀ (Body (mem R) b₀ o₀ γ₀)) ∷ ‵ (flft κ₀ q₀) ∷ ‵ (flft κ₁ q₁) ∷ (‵ (flft κ₂ q₂) ⊛ ‵ (flft κ₃ q₃) ⊛ ‵ (flft κ₄ q₄) ⊛ ‵ (flft κ₅ q₅) ⊛ ‵ (flft κ₆ q₆) ⊛ ‵ (flft κ₇ q₇) ⊛ ‵ ftrue) ∷ ‵ (finally S γ₁ zr) ∷ ‵ (finally u32 γ₂ z-rt) ∷ ‵ (finally u32 γ₃ z-pt) ∷ ‵ (finally u32 γ₄ z-nt) ∷ ‵ (finally u8 γ₅ z-slab) ∷ ‵ (finally u8 γ₇ z-answers) ∷ ‵ (ShrSlice (named 6) κ₆ u8 .own x₆ (s₆ ∷ [])) ∷ []) ∵
-      suffices ! _ (ends-at 𝓤 H A f.ended stayed (f.clauses 𝓤 H A at-mem run) W (((κ₀, (κ₁, (κ₂, (κ₃, (κ₄, (κ₅, (κ₆, (κ₇, tt)))))))), (q₀, (q₁, (q₂, (q₃, (q₄, (q₅, (q₆, (q₇, tt)))))))), tt, a, at), tt) (Q′.lowered r) r (h′, (zr, (z-rt, (z-pt, (z-nt, (z-slab, (tt, (z-answers, tt)))))))) (tt, (same-rows, (same-rt, (same-pt, (same-nt, (same-slab, (tt, (same-answers, tt))))))))) $ says ! said $
+      suffices ! _ (ends-at 𝓤 H A f.ended stayed (f.clauses 𝓤 H A at-mem run) W (((κ₀, (κ₁, (κ₂, (κ₃, (κ₄, (κ₅, (κ₆, (κ₇, tt)))))))), (q₀, (q₁, (q₂, (q₃, (q₄, (q₅, (q₆, (q₇, tt)))))))), tt, a, at), tt) (Q′.lowered r) r (h′, (zr, (z-rt, (z-pt, (z-nt, (z-slab, (tt, (z-answers, tt)))))))) (tt, (same-rows, (same-rt, (same-pt, (same-nt, (same-slab, (tt, (same-answers, tt))))))))) $ says-both ! said read $
       move ! (3 ∷ 4 ∷ []) $
       join ! $
       move ! (3 ∷ 0 ∷ []) $
@@ -198,10 +202,10 @@ module _ {M : Type 1} (𝓤 : URA M) (H : Heap 𝓤) (A : Atoms 𝓤) (W : Given
 
   -- what is given back where there are too many rows
   abbrev refused : Report
-  refused = record { stop = 1; answered = 0; taken = 0; sent = 0 }
+  refused = record { stop = 1; answered = 0; taken = 0; sent = 0; rows = 0 }
 
   refused-is : Is Q.the-row refused (Q′.lowered refused ∷ [])
-  refused-is = LL.owes Q.the-type Q′.the-laws refused ((refl, lit< tt), ((refl, lit< tt), ((refl, lit< tt), ((refl, lit< tt), tt))))
+  refused-is = LL.owes Q.the-type Q′.the-laws refused ((refl, lit< tt), ((refl, lit< tt), ((refl, lit< tt), ((refl, lit< tt), ((refl, lit< tt), tt)))))
 
   -- what the core ensures, of its result and the last lists; zt is the table's
   abbrev Did : Ended → List ℕ → List ℕ → List ℕ → List ℕ → List ℕ → List ℕ → Type 0
@@ -239,7 +243,7 @@ module _ {M : Type 1} (𝓤 : URA M) (H : Heap 𝓤) (A : Atoms 𝓤) (W : Given
         assigns ! (bin ! (big-lit ! (record { fits = lit< tt })) (load ! (from ! (stop !)) (look ! 46 refl)) tt) (from ! (stop !)) (init ! 44 refl (tt, tt)) $
         rewrite ! 44 (λ (t : Bool). ‵ (fat fullShare tyBool l₁₂ 0 (vbool t))) (e) refl $
         enters ! (load ! (from ! (stop !)) (look ! 44 refl)) $
-        assigns ! (agg ! (and-then ! (lit ! tt) (and-then ! (lit ! tt) (and-then ! (lit ! tt) (and-then ! (lit ! tt) (no-more !)))))) (from ! (stop !)) (init ! 68 refl (LL.lawful Q.the-type Q′.the-laws 𝓤 H A W .typed refused _ refused-is .0)) $
+        assigns ! (agg ! (and-then ! (lit ! tt) (and-then ! (lit ! tt) (and-then ! (lit ! tt) (and-then ! (lit ! tt) (and-then ! (lit ! tt) (no-more !))))))) (from ! (stop !)) (init ! 68 refl (LL.lawful Q.the-type Q′.the-laws 𝓤 H A W .typed refused _ refused-is .0)) $
         returns-within ! Post refl (look ! 68 refl) $
         move ! (71 ∷ []) $
         fsplit ! $
@@ -361,7 +365,7 @@ module _ {M : Type 1} (𝓤 : URA M) (H : Heap 𝓤) (A : Atoms 𝓤) (W : Given
         free1 ! $
         free0 ! $
         keep ! (9 ∷ 10 ∷ 8 ∷ 6 ∷ 7 ∷ 5 ∷ 4 ∷ 3 ∷ 2 ∷ 1 ∷ 0 ∷ 11 ∷ []) $
-        by ! (exits refused h ys rt pt nt slab answers (many-batch-leaves h (lent ys rt pt nt slab) big input answers) refl refl refl refl refl refl refused-is))))))))))))))))))))))))))))))))))))
+        by ! (exits refused h ys rt pt nt slab answers (many-batch-leaves h (lent ys rt pt nt slab) big input answers) (many-read h (lent ys rt pt nt slab) big) refl refl refl refl refl refl refused-is))))))))))))))))))))))))))))))))))))
 
     few : ltb 4096 (length ys) ≡ false → Goal
     few e =
@@ -523,10 +527,13 @@ module _ {M : Type 1} (𝓤 : URA M) (H : Heap 𝓤) (A : Atoms 𝓤) (W : Given
         pick ! (λ r.
         split ! $
         move ! (1 ∷ []) $
-        use1 W (some (λ (zs₂ : Unit {0} × (Unit {0} × (List ℕ × (List ℕ × (List ℕ × (List ℕ × (List ℕ × (Unit {0} × (List ℕ × Unit {0}))))))))). ‵ (lasts co.ended (ν₂ ∷ [], (κ₂, (κ₃, (κ₄, (κ₅, (κ₆, (κ₇, tt))))))) (h, (length ys, (at-list l₉ ε₂ (full ys), (x₂, (x₃, (x₄, (x₅, (x₆, (x₇, tt))))))))) zs₂) ⊛ raw (fact 𝓤 (Did r (zs₂ .1 .1 .0) (zs₂ .1 .1 .1 .0) (zs₂ .1 .1 .1 .1 .0) (zs₂ .1 .1 .1 .1 .1 .0) (zs₂ .1 .1 .1 .1 .1 .1 .0) (zs₂ .1 .1 .1 .1 .1 .1 .1 .1 .0))))) (id⊢ 𝓤 _) $
+        use1 W (some (λ (zs₂ : Unit {0} × (Unit {0} × (List ℕ × (List ℕ × (List ℕ × (List ℕ × (List ℕ × (Unit {0} × (List ℕ × Unit {0}))))))))). ‵ (lasts co.ended (ν₂ ∷ [], (κ₂, (κ₃, (κ₄, (κ₅, (κ₆, (κ₇, tt))))))) (h, (length ys, (at-list l₉ ε₂ (full ys), (x₂, (x₃, (x₄, (x₅, (x₆, (x₇, tt))))))))) zs₂) ⊛ raw (fact 𝓤 (Did r (zs₂ .1 .1 .0) (zs₂ .1 .1 .1 .0) (zs₂ .1 .1 .1 .1 .0) (zs₂ .1 .1 .1 .1 .1 .0) (zs₂ .1 .1 .1 .1 .1 .1 .0) (zs₂ .1 .1 .1 .1 .1 .1 .1 .1 .0))) ⊛ raw (fact 𝓤 (Read (take (length ys) (branchRowsOf (full ys))) (r .report))))) (id⊢ 𝓤 _) $
         pick ! (λ zs₂.
         split ! $
         move ! (1 ∷ []) $
+        split ! $
+        move ! (1 ∷ []) $
+        heard ! (Read (take (length ys) (branchRowsOf (full ys))) (r .report)) (λ read.
         heard ! (Did r (zs₂ .1 .1 .0) (zs₂ .1 .1 .1 .0) (zs₂ .1 .1 .1 .1 .0) (zs₂ .1 .1 .1 .1 .1 .0) (zs₂ .1 .1 .1 .1 .1 .1 .0) (zs₂ .1 .1 .1 .1 .1 .1 .1 .1 .0)) (λ did.
         fsplit ! $
         drop ! $
@@ -739,7 +746,7 @@ module _ {M : Type 1} (𝓤 : URA M) (H : Heap 𝓤) (A : Atoms 𝓤) (W : Given
         free1 ! $
         free0 ! $
         keep ! (0 ∷ 1 ∷ 2 ∷ 3 ∷ 5 ∷ 4 ∷ 10 ∷ 9 ∷ 8 ∷ 7 ∷ 6 ∷ 11 ∷ []) $
-        by ! (exits (r .report) (r .head) (zs₃ .0) (zs₂ .1 .1 .1 .0) (zs₂ .1 .1 .1 .1 .0) (zs₂ .1 .1 .1 .1 .1 .0) (zs₂ .1 .1 .1 .1 .1 .1 .0) (zs₂ .1 .1 .1 .1 .1 .1 .1 .1 .0) (stored-said small r (zs₂ .1 .1 .0) (zs₃ .0) (zs₂ .1 .1 .1 .0) (zs₂ .1 .1 .1 .1 .0) (zs₂ .1 .1 .1 .1 .1 .0) (zs₂ .1 .1 .1 .1 .1 .1 .0) (zs₂ .1 .1 .1 .1 .1 .1 .1 .1 .0) did e-rows) same-rows same-rt same-pt same-nt same-slab same-answers (field-is r is))))))))))))))))))))))))))))))))))))))))))))))))))))))))))))))))))))))
+        by ! (exits (r .report) (r .head) (zs₃ .0) (zs₂ .1 .1 .1 .0) (zs₂ .1 .1 .1 .1 .0) (zs₂ .1 .1 .1 .1 .1 .0) (zs₂ .1 .1 .1 .1 .1 .1 .0) (zs₂ .1 .1 .1 .1 .1 .1 .1 .1 .0) (stored-said small r (zs₂ .1 .1 .0) (zs₃ .0) (zs₂ .1 .1 .1 .0) (zs₂ .1 .1 .1 .1 .0) (zs₂ .1 .1 .1 .1 .1 .0) (zs₂ .1 .1 .1 .1 .1 .1 .0) (zs₂ .1 .1 .1 .1 .1 .1 .1 .1 .0) did e-rows) (rw (full-rows ys small) at read) same-rows same-rt same-pt same-nt same-slab same-answers (field-is r is)))))))))))))))))))))))))))))))))))))))))))))))))))))))))))))))))))))))
 
     by-test : (t : Bool) → ltb 4096 (length ys) ≡ t → Goal
     by-test true e = many e

@@ -71,17 +71,14 @@ line-requires-4 c κs = search needs
 slice-aggregate-line-5 : tie.Need-slice-aggregate-line-5
 slice-aggregate-line-5 c = search needs
 
-cast-line-2 : tie.Need-cast-line-2
-cast-line-2 c = search needs
-
 line-requires-5 : tie.Need-line-requires-5
 line-requires-5 c κs = search needs
 
 slice-aggregate-line-6 : tie.Need-slice-aggregate-line-6
 slice-aggregate-line-6 c = search needs
 
-cast-line-3 : tie.Need-cast-line-3
-cast-line-3 c = search needs
+cast-line-2 : tie.Need-cast-line-2
+cast-line-2 c = search needs
 
 line-requires-6 : tie.Need-line-requires-6
 line-requires-6 c κs = search needs
@@ -89,8 +86,8 @@ line-requires-6 c κs = search needs
 slice-aggregate-line-7 : tie.Need-slice-aggregate-line-7
 slice-aggregate-line-7 c = search needs
 
-cast-line-4 : tie.Need-cast-line-4
-cast-line-4 c = search needs
+cast-line-3 : tie.Need-cast-line-3
+cast-line-3 c = search needs
 
 line-requires-7 : tie.Need-line-requires-7
 line-requires-7 c κs = search needs
@@ -98,8 +95,8 @@ line-requires-7 c κs = search needs
 slice-aggregate-line-8 : tie.Need-slice-aggregate-line-8
 slice-aggregate-line-8 c = search needs
 
-cast-line-5 : tie.Need-cast-line-5
-cast-line-5 c = search needs
+cast-line-4 : tie.Need-cast-line-4
+cast-line-4 c = search needs
 
 line-requires-8 : tie.Need-line-requires-8
 line-requires-8 c κs = search needs
@@ -107,11 +104,20 @@ line-requires-8 c κs = search needs
 slice-aggregate-line-9 : tie.Need-slice-aggregate-line-9
 slice-aggregate-line-9 c = search needs
 
-cast-line-6 : tie.Need-cast-line-6
-cast-line-6 c = search needs
+cast-line-5 : tie.Need-cast-line-5
+cast-line-5 c = search needs
 
 line-requires-9 : tie.Need-line-requires-9
 line-requires-9 c κs = search needs
+
+slice-aggregate-line-10 : tie.Need-slice-aggregate-line-10
+slice-aggregate-line-10 c = search needs
+
+cast-line-6 : tie.Need-cast-line-6
+cast-line-6 c = search needs
+
+line-requires-10 : tie.Need-line-requires-10
+line-requires-10 c κs = search needs
 
 returns : tie.Need-returns
 returns c = search needs
@@ -141,18 +147,20 @@ main-spec =
     slice-aggregate-line-4
     line-requires-4
     slice-aggregate-line-5
-    cast-line-2
     line-requires-5
     slice-aggregate-line-6
-    cast-line-3
+    cast-line-2
     line-requires-6
     slice-aggregate-line-7
-    cast-line-4
+    cast-line-3
     line-requires-7
     slice-aggregate-line-8
-    cast-line-5
+    cast-line-4
     line-requires-8
     slice-aggregate-line-9
-    cast-line-6
+    cast-line-5
     line-requires-9
+    slice-aggregate-line-10
+    cast-line-6
+    line-requires-10
     returns)

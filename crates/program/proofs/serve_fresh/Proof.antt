@@ -1,4 +1,5 @@
 -- `program::serve_fresh` meets its contract: what `make` leaves is the fresh store, and the batch is the model's on it.
+use native.Mathlib.Omega.{arith}
 use borrow.Author.Needs.{needs}
 use Rattle.program.proofs.Serving.{leaves}
 use Rattle.program.proofs.serve_fresh.Statement.{statement}
@@ -12,6 +13,9 @@ batch-from-nt2 c = batch-from-pt2 (c .before .before)
 
 abbrev batch-from-slice-known16 : tie.After-slice-known16 → tie.After-batch
 batch-from-slice-known16 c = batch-from-nt2 (c .before .before .before .before .before)
+
+abbrev batch-from-result : tie.After-result → tie.After-batch
+batch-from-result c = batch-from-slice-known16 (c .before)
 
 abbrev start-from-slice-known3 : tie.After-slice-known3 → tie.Start
 start-from-slice-known3 c = c .before .before .before
@@ -41,7 +45,9 @@ batch-requires : tie.Need-batch-requires
 batch-requires c κs = search needs
 
 same-length : tie.Need-same-length
-same-length c = search needs
+same-length c =
+    let b = batch-from-result c in
+    omega (arith, b .batch .kept .1 .0, (make-from-batch b) .make .kept .1 .1 .0)
 
 same-length-2 : tie.Need-same-length-2
 same-length-2 c = search needs
@@ -60,10 +66,10 @@ same-length-6 c = search needs
 
 returns : tie.Need-returns
 returns c =
-    let b = (batch-from-slice-known16 c) in
-    let m = (make-from-batch b) in
-    let s = (start-from-make m) in
-    leaves (s .pre) (m .make .ensures) (record { branches = m .make .kept .1 .1 .0; records = m .make .kept .1 .1 .1 .0; names = m .make .kept .1 .1 .1 .1 .1 .0 }) (s .args .input .now) (b .batch .ensures)
+    let b = batch-from-result c in
+    let m = make-from-batch b in
+    let s = start-from-make m in
+    leaves (s .pre) (m .make .ensures) (record { branches = m .make .kept .1 .1 .0; records = m .make .kept .1 .1 .1 .0; names = m .make .kept .1 .1 .1 .1 .1 .0 }) (s .args .input .now) (b .batch .ensures .0)
 
 pub serve-fresh-spec : {M : Type 1} → statement M
 serve-fresh-spec =

@@ -5,10 +5,11 @@ use native.Mathlib.Omega.{arith}
 use borrow.Author.Needs.{needs}
 use borrow.Author.Tests.{not-true, not-false}
 use denote.Ref.{now}
+use Rattle.model.proofs.Base.{no-test}
 use Rattle.rows.specs.Rows.{branchRowsOf}
 use Rattle.rows.proofs.Laws.{branch-count}
-use Rattle.soundness.proofs.Tests.{refused}
-use Rattle.soundness.proofs.Branches.{same, Passes, first→, →first, passes-at, sound-passes, sound-open, passes-sound}
+use Rattle.holding.proofs.Chain.{same, Passes, first→, →first, passes-at}
+use Rattle.soundness.proofs.Branches.{sound-passes, sound-open, passes-sound}
 use Rattle.rows.specs.View.{withBranches}
 use Rattle.soundness.proofs.branches_sound.Statement.{statement}
 use Rattle.soundness.proofs.branches_sound.Tie as tie
@@ -62,13 +63,13 @@ returns : tie.Need-returns Inv-loop μ-loop
 returns c =
     let s = c .before .before .before .before .before in
     let bt = now (s .args .bt) in
-    λ t. refused (λ z. omega (arith, first→ (s .args .head .floor) (branchRowsOf bt) (omega (arith, branch-count bt, s .pre)) (passes-at (s .args .head .floor) (branchRowsOf bt) (s .args .head .branches) 1 (omega (arith, branch-count bt, s .pre)) (sound-passes (s .args .head) (withBranches bt t) (s .pre .0) (s .pre .1) z) (omega arith) (s .pre .0)), same (c .before .before .branch-at .ensures)))
+    λ t. no-test (λ z. omega (arith, first→ (s .args .head .floor) (branchRowsOf bt) (omega (arith, branch-count bt, s .pre)) (passes-at (s .args .head .floor) (branchRowsOf bt) (s .args .head .branches) 1 (omega (arith, branch-count bt, s .pre)) (sound-passes (s .args .head) (withBranches bt t) (s .pre .0) (s .pre .1) z) (omega arith) (s .pre .0)), same (c .before .before .branch-at .ensures)))
 
 returns-2 : tie.Need-returns-2 Inv-loop μ-loop
 returns-2 c =
     let s = start-from-then2 c in
     let bt = now (s .args .bt) in
-    λ t. refused (λ z. omega (arith, first→ (s .args .head .floor) (branchRowsOf bt) (omega (arith, branch-count bt, s .pre)) (passes-at (s .args .head .floor) (branchRowsOf bt) (s .args .head .branches) 1 (omega (arith, branch-count bt, s .pre)) (sound-passes (s .args .head) (withBranches bt t) (s .pre .0) (s .pre .1) z) (omega arith) (s .pre .0)), same (c .before .before .before .before .branch-at .ensures)))
+    λ t. no-test (λ z. omega (arith, first→ (s .args .head .floor) (branchRowsOf bt) (omega (arith, branch-count bt, s .pre)) (passes-at (s .args .head .floor) (branchRowsOf bt) (s .args .head .branches) 1 (omega (arith, branch-count bt, s .pre)) (sound-passes (s .args .head) (withBranches bt t) (s .pre .0) (s .pre .1) z) (omega arith) (s .pre .0)), same (c .before .before .before .before .branch-at .ensures)))
 
 loop-holds : tie.Need-loop-holds Inv-loop μ-loop
 loop-holds c =
@@ -89,7 +90,7 @@ returns-3 c =
     let bt = now (s .args .bt) in
     let i = c .before .before .before .loop .i in
     λ t.
-    refused
+    no-test
     (λ z.
     false≢true
     (sym (not-true _ (c .if3 .taken))
@@ -119,13 +120,13 @@ returns-4 : tie.Need-returns-4 Inv-loop μ-loop
 returns-4 c =
     let s = start-from-then4 c in
     let bt = now (s .args .bt) in
-    λ t. refused (λ z. omega (arith, sound-open (s .args .head) (withBranches bt t) (s .pre .0) (s .pre .1) z, same (c .before .before .branch-at2 .ensures)))
+    λ t. no-test (λ z. omega (arith, sound-open (s .args .head) (withBranches bt t) (s .pre .0) (s .pre .1) z, same (c .before .before .branch-at2 .ensures)))
 
 returns-5 : tie.Need-returns-5 Inv-loop μ-loop
 returns-5 c =
     let s = start-from-then5 c in
     let bt = now (s .args .bt) in
-    λ t. refused (λ z. omega (arith, sound-open (s .args .head) (withBranches bt t) (s .pre .0) (s .pre .1) z, same (c .before .before .before .before .before .branch-at2 .ensures)))
+    λ t. no-test (λ z. omega (arith, sound-open (s .args .head) (withBranches bt t) (s .pre .0) (s .pre .1) z, same (c .before .before .before .before .before .branch-at2 .ensures)))
 
 returns-6 : tie.Need-returns-6 Inv-loop μ-loop
 returns-6 c =

@@ -1,10 +1,11 @@
 use mathlib.Core.Logic.{⊎-elim}
 use native.Mathlib.Omega.{arith}
 use denote.Ref.{now}
+use Rattle.model.proofs.Base.{no-test}
 use Rattle.rows.specs.Rows.{branchRowsOf}
 use Rattle.rows.proofs.Laws.{branch-count}
-use Rattle.soundness.proofs.Tests.{refused}
-use Rattle.soundness.proofs.Branches.{same, link→, linked-is, passes-stairs}
+use Rattle.holding.proofs.Chain.{same, link→}
+use Rattle.soundness.proofs.Branches.{linked-is}
 use borrow.Author.Needs.{needs}
 use Rattle.soundness.proofs.linked.Statement.{statement}
 use Rattle.soundness.proofs.linked.Tie as tie
@@ -14,9 +15,6 @@ branch-at2-from-struct-known2 c = c .before .before .before
 
 abbrev branch-at2-from-then3 : tie.Then3 → tie.After-branch-at2
 branch-at2-from-then3 c = branch-at2-from-struct-known2 (c .before .before .before .before .before)
-
-abbrev branch-at2-from-joined3 : tie.Joined3 → tie.After-branch-at2
-branch-at2-from-joined3 c = branch-at2-from-struct-known2 (c .before .before .before .before .before)
 
 branch-at-requires : tie.Need-branch-at-requires
 branch-at-requires c κs = search needs
@@ -32,14 +30,14 @@ returns c =
     let b = c .before .before in
     let s = b .before .before .before in
     let bt = now (s .args .bt) in
-    refused (λ z. omega (arith, link→ (s .args .floor) (branchRowsOf bt) (s .args .i) (s .pre .0 .0) (omega (arith, branch-count bt, s .pre .0)) z, same (b .before .branch-at .ensures)))
+    no-test (λ z. omega (arith, link→ (s .args .floor) (branchRowsOf bt) (s .args .i) (s .pre .0 .0) (omega (arith, branch-count bt, s .pre .0)) z, same (b .before .branch-at .ensures)))
 
 returns-2 : tie.Need-returns-2
 returns-2 c =
     let b = c .before .before .before .before .before in
     let s = b .before .before .before in
     let bt = now (s .args .bt) in
-    refused (λ z. omega (arith, link→ (s .args .floor) (branchRowsOf bt) (s .args .i) (s .pre .0 .0) (omega (arith, branch-count bt, s .pre .0)) z, same (b .before .branch-at .ensures), same (b .branch-at2 .ensures)))
+    no-test (λ z. omega (arith, link→ (s .args .floor) (branchRowsOf bt) (s .args .i) (s .pre .0 .0) (omega (arith, branch-count bt, s .pre .0)) z, same (b .before .branch-at .ensures), same (b .branch-at2 .ensures)))
 
 add-if3 : tie.Need-add-if3
 add-if3 c = search needs
@@ -50,17 +48,13 @@ returns-3 c =
     let b = branch-at2-from-then3 d in
     let s = b .before .before .before in
     let bt = now (s .args .bt) in
-    refused
+    no-test
     (λ z.
     let l = link→ (s .args .floor) (branchRowsOf bt) (s .args .i) (s .pre .0 .0) (omega (arith, branch-count bt, s .pre .0)) z in
     omega (arith, l .follows (omega (arith, same (b .before .branch-at .ensures))), same (b .before .branch-at .ensures), same (b .branch-at2 .ensures), d))
 
 held-in-requires : tie.Need-held-in-requires
-held-in-requires c κs =
-    let b = branch-at2-from-joined3 c in
-    let s = b .before .before .before in
-    let bt = now (s .args .bt) in
-    (omega (arith, s .pre .0), passes-stairs (s .args .floor) (branchRowsOf bt) (s .args .i) (omega (arith, branch-count bt, s .pre .0)) (s .pre .1))
+held-in-requires c κs = search needs
 
 returns-4 : tie.Need-returns-4
 returns-4 c =

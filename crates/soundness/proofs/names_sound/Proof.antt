@@ -7,6 +7,7 @@ use Prim.Native.Nat.{suc, _-_, _≤_}
 use native.Mathlib.Omega.{arith}
 use denote.Ref.{now}
 use lib.ListN.{take, drop}
+use Rattle.model.proofs.Base.{no-test}
 use Rattle.model.specs.declared.Name.{Name}
 use Rattle.model.specs.declared.Branch.{Branch}
 use Rattle.model.specs.Soundness.{namesSound}
@@ -14,7 +15,6 @@ use Rattle.model.specs.ByNumber.{newestOf}
 use Rattle.rows.specs.Rows.{branchRowsOf, nameRowsOf}
 use Rattle.naming.proofs.Search.{no-name}
 use Rattle.naming.proofs.Laws.{name-room}
-use Rattle.soundness.proofs.Tests.{refused}
 use Rattle.soundness.proofs.Names.{names-none, names-from}
 use Rattle.soundness.proofs.names_sound.Statement.{statement}
 use Rattle.soundness.proofs.names_sound.Tie as tie
@@ -63,7 +63,7 @@ returns : tie.Need-returns Inv-loop μ-loop
 returns c =
     let a = c .before .before .before in
     let s = start a in
-    refused
+    no-test
     (λ z. false≢true (sym (not-true _ (c .if1 .taken)) ∙ (c .before .name-sound .ensures ∙ names-from (s .args .head .now) (branches s) (counted s) (a .loop .i - 1) z)))
 
 sub-i : tie.Need-sub-i Inv-loop μ-loop
