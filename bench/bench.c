@@ -1,8 +1,8 @@
 /* Times the library and what it is compared with on the same batches, and prints tables in Markdown.
    usage: bench [RECORDS [BRANCHES [REPETITIONS]]]      the greatest sizes, by default 65536 4096 5
-   Each contender takes the same bytes; every answer, number, date and page, is compared with the library's, and the tables
-   that the library and the plain implementation leave are compared byte for byte. Times are of the processor, not of the
-   clock. */
+   Each contender takes the same bytes; every answer, number, date and page, is compared with the library's, and the tables,
+   slab and live disk that the library and the plain implementation leave are compared byte for byte; the databases have no live
+   disk. Times are of the processor, not of the clock. */
 #define _POSIX_C_SOURCE 200809L
 #include <math.h>
 #include <stdio.h>
@@ -38,6 +38,8 @@ static void copy_areas(struct areas *to, const struct areas *from)
     memcpy(to->records = room(from->records_len), from->records, from->records_len);
     memcpy(to->places = room(from->places_len), from->places, from->places_len);
     memcpy(to->slab = room(from->slab_len), from->slab, from->slab_len);
+    memcpy(to->disk = room(from->disk_len), from->disk, from->disk_len);
+    memcpy(to->marks = room(from->marks_len), from->marks, from->marks_len);
 }
 
 static void free_areas(struct areas *s)
@@ -46,6 +48,8 @@ static void free_areas(struct areas *s)
     free(s->records);
     free(s->places);
     free(s->slab);
+    free(s->disk);
+    free(s->marks);
     memset(s, 0, sizeof *s);
 }
 
@@ -53,7 +57,8 @@ static int same_areas(const struct areas *a, const struct areas *b)
 {
     return memcmp(a->head, b->head, sizeof a->head) == 0 && memcmp(a->branches, b->branches, a->branches_len) == 0
         && memcmp(a->records, b->records, a->records_len) == 0 && memcmp(a->places, b->places, a->places_len) == 0
-        && memcmp(a->names, b->names, sizeof a->names) == 0 && memcmp(a->slab, b->slab, a->slab_len) == 0;
+        && memcmp(a->names, b->names, sizeof a->names) == 0 && memcmp(a->slab, b->slab, a->slab_len) == 0
+        && memcmp(a->disk, b->disk, a->disk_len) == 0 && memcmp(a->marks, b->marks, a->marks_len) == 0;
 }
 
 static struct areas of_library, of_plain, left_by_library;
@@ -62,8 +67,8 @@ static size_t run_batch(batch_function *f, struct areas *s, const uint8_t *batch
 {
     uint64_t answered, taken, sent, rows, records = head_records(s);
     uint32_t stop = f(s->head, sizeof s->head, s->branches, s->branches_len, s->records, s->records_len, s->places,
-        s->places_len, s->names, sizeof s->names, s->slab, s->slab_len, batch, batch_len, answers, answers_len, &answered, &taken,
-        &sent, &rows);
+        s->places_len, s->names, sizeof s->names, s->slab, s->slab_len, s->disk, s->disk_len, s->marks, s->marks_len, batch,
+        batch_len, answers, answers_len, &answered, &taken, &sent, &rows);
     if (stop != 0 || taken != batch_len) {
         fprintf(stderr, "bench: stop %u after %llu requests\n", (unsigned)stop, (unsigned long long)answered);
         exit(1);
@@ -144,6 +149,7 @@ static void make(struct made *s, enum shape shape, uint32_t n, uint32_t b)
     const uint32_t head[6] = {65536, rows, count, s->now, 0, 0};
     for (int i = 0; i < 6; i++)
         put32(s->areas.head + 4 * i, head[i]);
+    lend_disk(&s->areas);
     for (uint32_t k = 0; k < rows; k++) {
         uint8_t *p = s->areas.branches + 12 * k;
         put32(p, k * s->width);

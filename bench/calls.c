@@ -31,7 +31,8 @@ static void *room(size_t bytes)
 struct store {
     uint8_t head[KIZMOOLET_HEAD_BYTES];
     uint8_t *branches, *records, *places, *names, *slab, *copy; /* branches, records, places and names stand in one piece */
-    size_t branches_len, records_len, places_len, slab_len;
+    uint8_t *disk, *marks;
+    size_t branches_len, records_len, places_len, slab_len, disk_len, marks_len;
 };
 
 static void put_number(uint8_t *to, uint32_t number)
@@ -71,6 +72,11 @@ static void make(struct store *s, uint32_t pages, uint32_t branches, uint32_t re
     s->copy = room(KIZMOOLET_HEAD_BYTES + tables_of(s));
     s->slab = room(s->slab_len);
     memset(s->slab, 0x5A, s->slab_len);
+    s->marks_len = pages;
+    s->disk_len = (size_t)KIZMOOLET_PAGE_BYTES * pages;
+    s->marks = room(s->marks_len);
+    s->disk = room(s->disk_len);
+    kizmoolet_make_stale(s->marks, s->marks_len);
     if (kizmoolet_fresh(pages, s->head, sizeof s->head, s->branches, s->branches_len, s->records, s->records_len, s->places,
             s->places_len, s->names, KIZMOOLET_NAMES_BYTES, s->slab, s->slab_len))
         fail("no fresh store");
@@ -187,8 +193,8 @@ static uint32_t one_call(struct store *s, const struct library *with, enum call 
             s->records_len, s->places, s->places_len, s->names, KIZMOOLET_NAMES_BYTES, s->slab, s->slab_len);
     default:
         return with->batch(s->head, head_len, s->branches, s->branches_len, s->records, s->records_len, s->places,
-            s->places_len, s->names, KIZMOOLET_NAMES_BYTES, s->slab, s->slab_len, batch, batch_len, answers, sizeof answers,
-            &answered, &request_bytes, &answer_bytes, &rows_read);
+            s->places_len, s->names, KIZMOOLET_NAMES_BYTES, s->slab, s->slab_len, s->disk, s->disk_len, s->marks, s->marks_len,
+            batch, batch_len, answers, sizeof answers, &answered, &request_bytes, &answer_bytes, &rows_read);
     }
 }
 

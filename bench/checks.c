@@ -2,7 +2,7 @@
    BEFORE is defined, an earlier library whose entries are renamed before_fresh and before_batch. Three calls without a request: an
    empty batch; one refused with 3 since only the number of places in use is wrong, which checks all and writes nothing back; and one
    refused with 1 since the floor is above now, which decodes all and checks no row. The check alone is the second less the third.
-   Results, counts and all six areas are compared after every call. Times are of the processor, not of the clock.
+   Results, counts and all areas are compared after every call. Times are of the processor, not of the clock.
    usage: checks [REPETITIONS]      an odd number up to 201, by default 41 */
 #define _POSIX_C_SOURCE 200809L
 #include <stdio.h>
@@ -98,7 +98,7 @@ static void time_call(struct row *row, enum call call, int repetitions)
     put_wrong(&found, call);
     stop_due = dues[call];
     time_batch(contenders[LIBRARY]);
-    if (!same_branches(&used, &found) || !same_others(&used, &found))
+    if (!same_branches(&used, &found) || !same_others(&used, &found) || !same_disks(&used, &found))
         fail("a call without a request changes the store");
     keep_first();
     take_turns(CONTENDERS, repetitions);

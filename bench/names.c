@@ -1,6 +1,6 @@
 /* Times what names cost: naming and withdrawing, reads at named moments below the floor, a reclaim and a table check with 32 names
    and with none; the library, plain C (plain.c) and, where BEFORE is defined and the store has no name, an earlier library whose
-   entries are renamed before_fresh and before_batch. Answers and all six areas are compared byte for byte after every batch, and
+   entries are renamed before_fresh and before_batch. Answers and all areas are compared byte for byte after every batch, and
    once for each row of a table with what is due. Times are of the processor, not of the clock.
    usage: names [REPETITIONS]      an odd number up to 201, by default 41 */
 #define _POSIX_C_SOURCE 200809L
@@ -118,6 +118,7 @@ static void make(struct areas *s, const struct work *w)
     const uint32_t head[6] = {z->pages, z->branches, z->rows, moments_of(z) - 1, w->kind == NAMED_READS ? middle_of(z) : 0, w->names};
     for (int i = 0; i < 6; i++)
         put32(s->head + 4 * i, head[i]);
+    lend_disk(s);
     for (uint32_t k = 0; k < w->names; k++) {
         name_of(k, s->names + 12 * k);
         put32(s->names + 12 * k + 8, moment_of(z, k));

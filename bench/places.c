@@ -1,7 +1,7 @@
 /* Times batches by how far their writes look for a free place: the library, plain C (plain.c) and, where BEFORE is defined, an
-   earlier library whose entries are renamed before_fresh and before_batch. Answers and all six areas are compared byte for byte
+   earlier library whose entries are renamed before_fresh and before_batch. Answers and all areas are compared byte for byte
    after every batch, and once for each row of a table with what is due: each write in the smallest free place, looked for from
-   the first one on. Times are of the processor, not of the clock.
+   the first one on, and on the live disk. Times are of the processor, not of the clock.
    usage: places [REPETITIONS]      an odd number up to 201, by default 41 */
 #define _POSIX_C_SOURCE 200809L
 #include <stdio.h>
@@ -112,6 +112,7 @@ static void make(struct areas *s, const struct work *w)
     const uint32_t head[6] = {z->pages, z->branches, w->used, z->branches * MOMENTS - 1, 0, 0};
     for (int i = 0; i < 6; i++)
         put32(s->head + 4 * i, head[i]);
+    lend_disk(s);
     for (uint32_t k = 0; k < z->branches; k++) {
         uint8_t *p = s->branches + 12 * (size_t)k;
         put32(p, k * MOMENTS);
@@ -187,6 +188,7 @@ struct due {
     struct record *rows;   /* the records, in order */
     const uint8_t **pages; /* of each place, what it holds */
     uint8_t *taken;        /* of each place, whether it is in use */
+    const uint8_t **live;  /* of each address, what was written there, if anything */
     uint32_t n, most, now, places;
     uint64_t passed;       /* places in use that the searches went past */
     uint32_t searches, freed;
@@ -199,6 +201,7 @@ static void due_at_first(struct due *d, const struct areas *s)
     d->rows = room(d->most * sizeof *d->rows);
     d->pages = room(d->places * sizeof *d->pages);
     d->taken = room(d->places);
+    d->live = room(head_size(s) * sizeof *d->live);
     for (uint32_t i = 0; i < d->n; i++)
         d->rows[i] = record_at(s, i);
     for (uint32_t i = 0; i < d->places; i++) {
@@ -214,7 +217,7 @@ static uint32_t due_write(struct due *d, uint32_t address, const uint8_t *page)
     while (at > 0 && d->rows[at - 1].address > address)
         at--;
     if (at > 0 && d->rows[at - 1].address == address && d->rows[at - 1].moment == d->now) {
-        d->pages[d->rows[at - 1].place] = page;
+        d->pages[d->rows[at - 1].place] = d->live[address] = page;
         return 0;
     }
     if (d->n == d->most)
@@ -229,7 +232,7 @@ static uint32_t due_write(struct due *d, uint32_t address, const uint8_t *page)
     d->rows[at] = (struct record){address, d->now, place};
     d->n++;
     d->taken[place] = 1;
-    d->pages[place] = page;
+    d->pages[place] = d->live[address] = page;
     return 0;
 }
 
@@ -278,6 +281,18 @@ static int due_left(const struct due *d, const struct areas *s)
     return same;
 }
 
+/* What was written is on the live disk too, current and not blank; all else of it is as before. */
+static int due_live(const struct due *d, const struct areas *s, const struct areas *before)
+{
+    int same = 1;
+    for (size_t i = 0; same && i < s->marks_len; i++) {
+        const uint8_t *page = d->live[i] ? d->live[i] : before->disk + PAGE * i;
+        same = memcmp(s->disk + PAGE * i, page, PAGE) == 0
+            && s->marks[i] == (d->live[i] ? KIZMOOLET_MARK_CURRENT : before->marks[i]);
+    }
+    return same;
+}
+
 /* A batch is to do what its row of the table says: else its time says something else. */
 static int as_named(const struct work *w, const struct due *d)
 {
@@ -323,12 +338,15 @@ static struct due first_batch(const struct work *w)
     }
     if (kizmoolet_next_answer(&from, &answer) != 0 || !due_left(&d, &used))
         fail("a write is not in the smallest free place, or the store is not the one due");
+    if (!due_live(&d, &used, &found))
+        fail("the live disk is not the one due");
     if (!as_named(w, &d))
         fail(names[w->kind]);
     keep_first();
     free(d.rows);
     free(d.pages);
     free(d.taken);
+    free(d.live);
     return d;
 }
 

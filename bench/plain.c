@@ -1,7 +1,8 @@
 /* (c) The same job in plain C, not verified: the same byte tables, the same checks, refusals and counts; it too remembers within a
    batch below which place none is free. It works on the bytes in place, and renames the places of the rows that moved one by one,
    where the library passes over the place table. Below the last gap between the branch rows, where the library searches the rows for a
-   moment, it searches among the stretches that the gaps leave, with an index by ranges of moments. */
+   moment, it searches among the stretches that the gaps leave, with an index by ranges of moments. The live disk's marks it
+   passes over eight at a time. */
 #include <string.h>
 #include "store.h"
 
@@ -153,6 +154,28 @@ static size_t places_in_use(const struct areas *s)
     return used;
 }
 
+/* Eight marks, or zeros past the last one, as one number; bit 0 of each byte says that the page is current. */
+#define MARKS_OF(mark) ((mark) * 0x0101010101010101u)
+
+static uint64_t eight_marks(const uint8_t *marks, size_t n)
+{
+    uint64_t eight = 0;
+    memcpy(&eight, marks, n < 8 ? n : 8);
+    return eight;
+}
+
+static int disk_fits(const struct areas *s)
+{
+    uint64_t any = 0;
+    if (s->disk_len != PAGE * (size_t)head_size(s) || s->marks_len != head_size(s))
+        return 0;
+    size_t i = 0;
+    for (; i + 8 <= s->marks_len; i += 8)
+        any |= eight_marks(s->marks + i, 8);
+    any |= eight_marks(s->marks + i, s->marks_len - i);
+    return (any & ~MARKS_OF(3)) == 0;
+}
+
 /* The refusal of the table checks, 0 where there is none, and how many record rows they read. */
 static unsigned check(const struct areas *s, uint64_t *rows)
 {
@@ -165,7 +188,9 @@ static unsigned check(const struct areas *s, uint64_t *rows)
     number_ranges(&t);
     size_t kept = rows_kept(s, &t), n = head_records(s);
     *rows = kept < n ? kept + 1 : n;
-    return kept == n && places_in_use(s) == n ? 0 : 3;
+    if (kept < n || places_in_use(s) != n)
+        return 3;
+    return disk_fits(s) ? 0 : 18;
 }
 
 /* ---- the requests */
@@ -208,6 +233,13 @@ static struct found lookup(const struct areas *s, uint32_t address, uint32_t mom
     return NOTHING;
 }
 
+/* A page that was put into the store goes to the live disk too. */
+static void put_live(struct areas *s, uint32_t address, const uint8_t *page)
+{
+    memcpy(s->disk + PAGE * (size_t)address, page, PAGE);
+    s->marks[address] = KIZMOOLET_MARK_CURRENT;
+}
+
 /* A page at (address, now). No place below *from is free: a new record's place is looked for from there on. */
 static unsigned write_page(struct areas *s, size_t *from, uint32_t address, const uint8_t *page)
 {
@@ -219,6 +251,7 @@ static unsigned write_page(struct areas *s, size_t *from, uint32_t address, cons
         struct record r = record_at(s, at - 1);
         if (r.address == address && r.moment == now) {
             memcpy(s->slab + PAGE * r.place, page, PAGE);
+            put_live(s, address, page);
             return 0;
         }
     }
@@ -236,8 +269,32 @@ static unsigned write_page(struct areas *s, size_t *from, uint32_t address, cons
     set_record(s, at, (struct record){address, now, (uint32_t)place});
     put32(s->places + 4 * place, (uint32_t)at + 1);
     memcpy(s->slab + PAGE * place, page, PAGE);
+    put_live(s, address, page);
     put32(s->head + 8, (uint32_t)n + 1);
     return 0;
+}
+
+/* Every page becomes stale; blank marks stay. */
+static void make_stale(struct areas *s)
+{
+    for (size_t i = 0; i < s->marks_len; i += 8) {
+        size_t n = s->marks_len - i;
+        uint64_t eight = eight_marks(s->marks + i, n) & MARKS_OF(KIZMOOLET_MARK_BLANK);
+        memcpy(s->marks + i, &eight, n < 8 ? n : 8);
+    }
+}
+
+/* The first stale page from an address on; how many pages there are, where none is. */
+static size_t next_stale(const struct areas *s, size_t address)
+{
+    size_t n = s->marks_len;
+    while (address < n && s->marks[address] & KIZMOOLET_MARK_CURRENT) {
+        address++;
+        while (address + 8 <= n
+            && (eight_marks(s->marks + address, 8) & MARKS_OF(KIZMOOLET_MARK_CURRENT)) == MARKS_OF(KIZMOOLET_MARK_CURRENT))
+            address += 8;
+    }
+    return address;
 }
 
 /* From the floor on, or named. */
@@ -265,6 +322,7 @@ static unsigned revert(struct areas *s, uint32_t moment)
     set_branch(s, n, (struct branch){now + 1, OPEN_END, moment});
     put32(s->head + 4, (uint32_t)n + 1);
     put32(s->head + 12, now + 1);
+    make_stale(s);
     return 0;
 }
 
@@ -360,17 +418,80 @@ static unsigned unreadable(const uint8_t *p, size_t left, struct request *q)
     return left < request_bytes(q->operation) ? 11 : 0;
 }
 
-uint32_t plain_batch(uint8_t *head, size_t head_len, uint8_t *branches, size_t branches_len, uint8_t *records, size_t records_len,
-    uint8_t *places, size_t places_len, uint8_t *names, size_t names_len, uint8_t *slab, size_t slab_len, const uint8_t *batch,
-    size_t batch_len, uint8_t *answers, size_t answers_len, uint64_t *answered, uint64_t *taken, uint64_t *sent, uint64_t *rows)
+/* Takes over head and names, and makes the table checks. */
+static unsigned take(struct areas *s, const uint8_t *head, size_t head_len, const uint8_t *names, size_t names_len, uint64_t *rows)
 {
-    struct areas s = {{0}, {0}, branches, records, places, slab, branches_len, records_len, places_len, slab_len};
-    *answered = *taken = *sent = *rows = 0;
-    if (head_len != sizeof s.head || names_len != sizeof s.names)
+    *rows = 0;
+    if (head_len != sizeof s->head || names_len != sizeof s->names)
         return 1;
-    memcpy(s.head, head, sizeof s.head);
-    memcpy(s.names, names, sizeof s.names);
-    unsigned stop = check(&s, rows);
+    memcpy(s->head, head, sizeof s->head);
+    memcpy(s->names, names, sizeof s->names);
+    return check(s, rows);
+}
+
+uint32_t plain_live_read(const uint8_t *head, size_t head_len, const uint8_t *branches, size_t branches_len, const uint8_t *records,
+    size_t records_len, const uint8_t *places, size_t places_len, const uint8_t *names, size_t names_len, const uint8_t *slab,
+    size_t slab_len, const uint8_t *disk, size_t disk_len, const uint8_t *marks, size_t marks_len, uint32_t address, uint32_t *area,
+    uint64_t *offset)
+{
+    /* the areas are not const in the struct, and are not written to */
+    struct areas s = {{0}, {0}, (uint8_t *)branches, (uint8_t *)records, (uint8_t *)places, (uint8_t *)slab, (uint8_t *)disk,
+        (uint8_t *)marks, branches_len, records_len, places_len, slab_len, disk_len, marks_len};
+    uint64_t rows;
+    *area = KIZMOOLET_AREA_NONE;
+    *offset = 0;
+    unsigned refusal = take(&s, head, head_len, names, names_len, &rows);
+    if (refusal)
+        return refusal;
+    if (address >= head_size(&s))
+        return 4;
+    if (marks[address] & KIZMOOLET_MARK_CURRENT) {
+        if (marks[address] & KIZMOOLET_MARK_BLANK)
+            return 0;
+        *area = KIZMOOLET_AREA_DISK;
+        *offset = PAGE * (uint64_t)address;
+        return 0;
+    }
+    struct found found = lookup(&s, address, head_now(&s));
+    if (found.page) {
+        *area = KIZMOOLET_AREA_SLAB;
+        *offset = (uint64_t)(found.page - slab);
+    }
+    return 0;
+}
+
+uint32_t plain_copy_step(const uint8_t *head, size_t head_len, const uint8_t *branches, size_t branches_len, const uint8_t *records,
+    size_t records_len, const uint8_t *places, size_t places_len, const uint8_t *names, size_t names_len, const uint8_t *slab,
+    size_t slab_len, uint8_t *disk, size_t disk_len, uint8_t *marks, size_t marks_len, uint32_t budget, uint64_t *copied)
+{
+    /* the areas are not const in the struct; disk and marks alone are written to */
+    struct areas s = {{0}, {0}, (uint8_t *)branches, (uint8_t *)records, (uint8_t *)places, (uint8_t *)slab, disk, marks,
+        branches_len, records_len, places_len, slab_len, disk_len, marks_len};
+    uint64_t rows, done = 0;
+    *copied = 0;
+    unsigned refusal = take(&s, head, head_len, names, names_len, &rows);
+    if (refusal)
+        return refusal;
+    for (size_t at = 0; done < budget && (at = next_stale(&s, at)) < marks_len; done++, at++) {
+        struct found found = lookup(&s, (uint32_t)at, head_now(&s));
+        if (found.page)
+            put_live(&s, (uint32_t)at, found.page);
+        else
+            marks[at] = KIZMOOLET_MARK_CURRENT | KIZMOOLET_MARK_BLANK;
+    }
+    *copied = done;
+    return 0;
+}
+
+uint32_t plain_batch(uint8_t *head, size_t head_len, uint8_t *branches, size_t branches_len, uint8_t *records, size_t records_len,
+    uint8_t *places, size_t places_len, uint8_t *names, size_t names_len, uint8_t *slab, size_t slab_len, uint8_t *disk,
+    size_t disk_len, uint8_t *marks, size_t marks_len, const uint8_t *batch, size_t batch_len, uint8_t *answers, size_t answers_len,
+    uint64_t *answered, uint64_t *taken, uint64_t *sent, uint64_t *rows)
+{
+    struct areas s = {{0}, {0}, branches, records, places, slab, disk, marks, branches_len, records_len, places_len, slab_len,
+        disk_len, marks_len};
+    *answered = *taken = *sent = 0;
+    unsigned stop = take(&s, head, head_len, names, names_len, rows);
     if (stop)
         return stop;
     size_t at = 0, out = 0, from = 0; /* no place below `from` is free */

@@ -83,6 +83,11 @@ static void restore(struct areas *s, const uint8_t *p)
     memcpy(s->names, p + s->places_len, sizeof s->names);
 }
 
+static int all_zero(const uint8_t *p, size_t length)
+{
+    return p[0] == 0 && memcmp(p, p + 1, length - 1) == 0;
+}
+
 static void row(enum shape shape, uint32_t n, uint32_t b, int repetitions)
 {
     struct areas s;
@@ -103,8 +108,8 @@ static void row(enum shape shape, uint32_t n, uint32_t b, int repetitions)
             marks_by_groups = c == SLOW;
             double t = seconds();
             uint32_t stop = contenders[c](s.head, sizeof s.head, s.branches, s.branches_len, s.records, s.records_len, s.places,
-                s.places_len, s.names, sizeof s.names, s.slab, s.slab_len, batch, 7, answers, sizeof answers, &answered, &taken,
-                &sent, &rows);
+                s.places_len, s.names, sizeof s.names, s.slab, s.slab_len, s.disk, s.disk_len, s.marks, s.marks_len, batch, 7,
+                answers, sizeof answers, &answered, &taken, &sent, &rows);
             times[c * repetitions + r] = seconds() - t;
             if (stop != 0 || answered != 1 || sent != sizeof answers || answers[0] != 0)
                 fail("a reclaim was not accepted");
@@ -120,6 +125,8 @@ static void row(enum shape shape, uint32_t n, uint32_t b, int repetitions)
                 free(left);
             }
         }
+    if (!all_zero(s.disk, s.disk_len) || !all_zero(s.marks, s.marks_len))
+        fail("a reclaim writes to the live disk or its marks");
     printf("| %s | %u | %u | %u | %u |", shape_names[shape], get32(first + 8), b, get32(answer_due + 1), b - get32(due + 4));
     for (int c = 0; c < CONTENDERS; c++) {
         qsort(times + c * repetitions, (size_t)repetitions, sizeof *times, by_time);
@@ -140,6 +147,8 @@ static void row(enum shape shape, uint32_t n, uint32_t b, int repetitions)
     free(s.records);
     free(s.places);
     free(s.slab);
+    free(s.disk);
+    free(s.marks);
 }
 
 int main(int argc, char **argv)

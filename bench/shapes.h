@@ -111,4 +111,5 @@ static void make(struct areas *s, enum shape shape, uint32_t n, uint32_t b)
     const uint32_t head[6] = {65536, b, make_records(s, shape, n, b), b * width - 1, 0, 0};
     for (int i = 0; i < 6; i++)
         put32(s->head + 4 * i, head[i]);
+    lend_disk(s);
 }

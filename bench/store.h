@@ -30,11 +30,11 @@ struct record { uint32_t address, moment, place; };
 /* A name's eight bytes, as two numbers, and its moment. */
 struct name { uint32_t high, low, moment; };
 
-/* Head, tables and slab as the C interface takes them; head and names have one length each. */
+/* Head, tables, slab, live disk and marks as the C interface takes them; head and names have one length each. */
 struct areas {
     uint8_t head[KIZMOOLET_HEAD_BYTES], names[KIZMOOLET_NAMES_BYTES];
-    uint8_t *branches, *records, *places, *slab;
-    size_t branches_len, records_len, places_len, slab_len;
+    uint8_t *branches, *records, *places, *slab, *disk, *marks;
+    size_t branches_len, records_len, places_len, slab_len, disk_len, marks_len;
 };
 
 static inline uint32_t head_size(const struct areas *s) { return get32(s->head); }
@@ -115,10 +115,18 @@ struct contender {
 
 extern const struct contender library, plain, paper, paper_short, sqlite;
 
-/* The plain implementation under the signature of kizmoolet_batch. */
+/* The plain implementation under the signatures of kizmoolet_batch, kizmoolet_live_read and kizmoolet_copy_step. */
 uint32_t plain_batch(uint8_t *head, size_t head_len, uint8_t *branches, size_t branches_len, uint8_t *records, size_t records_len,
-    uint8_t *places, size_t places_len, uint8_t *names, size_t names_len, uint8_t *slab, size_t slab_len, const uint8_t *batch,
-    size_t batch_len, uint8_t *answers, size_t answers_len, uint64_t *answered, uint64_t *taken, uint64_t *sent, uint64_t *rows);
+    uint8_t *places, size_t places_len, uint8_t *names, size_t names_len, uint8_t *slab, size_t slab_len, uint8_t *disk,
+    size_t disk_len, uint8_t *marks, size_t marks_len, const uint8_t *batch, size_t batch_len, uint8_t *answers, size_t answers_len,
+    uint64_t *answered, uint64_t *taken, uint64_t *sent, uint64_t *rows);
+uint32_t plain_live_read(const uint8_t *head, size_t head_len, const uint8_t *branches, size_t branches_len, const uint8_t *records,
+    size_t records_len, const uint8_t *places, size_t places_len, const uint8_t *names, size_t names_len, const uint8_t *slab,
+    size_t slab_len, const uint8_t *disk, size_t disk_len, const uint8_t *marks, size_t marks_len, uint32_t address, uint32_t *area,
+    uint64_t *offset);
+uint32_t plain_copy_step(const uint8_t *head, size_t head_len, const uint8_t *branches, size_t branches_len, const uint8_t *records,
+    size_t records_len, const uint8_t *places, size_t places_len, const uint8_t *names, size_t names_len, const uint8_t *slab,
+    size_t slab_len, uint8_t *disk, size_t disk_len, uint8_t *marks, size_t marks_len, uint32_t budget, uint64_t *copied);
 
 /* Which records and branches a reclaim keeps; shared by the three that the library is compared with. */
 struct marking {
@@ -149,6 +157,15 @@ static inline void *room(size_t bytes)
     if (!p)
         fail("out of memory");
     return p;
+}
+
+/* A live disk for the pages that the head tells, every page of it stale. */
+static inline void lend_disk(struct areas *s)
+{
+    s->marks_len = head_size(s);
+    s->disk_len = PAGE * s->marks_len;
+    s->disk = room(s->disk_len);
+    s->marks = room(s->marks_len);
 }
 
 #endif

@@ -1,6 +1,7 @@
 /* Batches timed in turns: the library, plain C and, where BEFORE is defined, an earlier library, each on the same store, with the
-   answers and all six areas compared byte for byte after every batch (of an earlier library see before.h). Whoever includes it says before it BATCH_BYTES and
-   ANSWERS_BYTES, the most bytes of a batch and of its answers, and SLAB_STAYS where no batch writes to the slab. */
+   answers, all six areas of the store, live disk and marks compared byte for byte after every batch (of an earlier library see
+   before.h). Whoever includes it says before it BATCH_BYTES and ANSWERS_BYTES, the most bytes of a batch and of its answers, and
+   SLAB_STAYS where no batch writes to slab and disk. */
 #include <time.h>
 #include "before.h"
 
@@ -19,12 +20,14 @@ static double times[CONTENDERS][MOST_REPETITIONS];
 static struct areas found, used, left;
 static uint8_t batch[BATCH_BYTES];
 static uint8_t answers[ANSWERS_BYTES], answers_left[ANSWERS_BYTES];
-static size_t batch_len;
+static size_t batch_len, answers_len = ANSWERS_BYTES; /* of the batch, and of the answer area that is lent for it */
 static uint64_t answered, answer_bytes, answered_left, answer_bytes_left;
 static uint32_t stop_due; /* 0, or the number of the table check that is to refuse the batch */
 
+/* Head, tables and marks. */
 static void copy_tables(struct areas *to, const struct areas *from)
 {
+    memcpy(to->marks, from->marks, from->marks_len);
     memcpy(to->branches, from->branches, from->branches_len);
     memcpy(to->records, from->records, from->records_len);
     memcpy(to->places, from->places, from->places_len);
@@ -44,12 +47,19 @@ static int same_others(const struct areas *a, const struct areas *b)
         && memcmp(a->names, b->names, sizeof a->names) == 0 && memcmp(a->slab, b->slab, a->slab_len) == 0;
 }
 
+static int same_disks(const struct areas *a, const struct areas *b)
+{
+    return memcmp(a->disk, b->disk, a->disk_len) == 0 && memcmp(a->marks, b->marks, a->marks_len) == 0;
+}
+
 static void free_areas(struct areas *s)
 {
     free(s->branches);
     free(s->records);
     free(s->places);
     free(s->slab);
+    free(s->disk);
+    free(s->marks);
 }
 
 static void free_stores(void)
@@ -72,13 +82,14 @@ static double time_batch(batch_function *f)
     uint64_t taken, rows;
 #ifndef SLAB_STAYS
     memcpy(used.slab, found.slab, found.slab_len);
+    memcpy(used.disk, found.disk, found.disk_len);
 #endif
     copy_tables(&used, &found);
-    memset(answers, 0xA5, sizeof answers);
+    memset(answers, 0xA5, answers_len);
     double began = seconds();
     uint32_t stop = f(used.head, sizeof used.head, used.branches, used.branches_len, used.records, used.records_len, used.places,
-        used.places_len, used.names, sizeof used.names, used.slab, used.slab_len, batch, batch_len, answers, sizeof answers,
-        &answered, &taken, &answer_bytes, &rows);
+        used.places_len, used.names, sizeof used.names, used.slab, used.slab_len, used.disk, used.disk_len, used.marks,
+        used.marks_len, batch, batch_len, answers, answers_len, &answered, &taken, &answer_bytes, &rows);
     double took = seconds() - began;
     if (stop != stop_due || taken != (stop ? 0 : batch_len))
         fail("a batch does not end as is due");
@@ -92,7 +103,8 @@ static void keep_first(void)
 {
     copy_tables(&left, &used);
     memcpy(left.slab, used.slab, used.slab_len);
-    memcpy(answers_left, answers, sizeof answers);
+    memcpy(left.disk, used.disk, used.disk_len);
+    memcpy(answers_left, answers, answers_len);
     answered_left = answered;
     answer_bytes_left = answer_bytes;
 }
@@ -108,12 +120,25 @@ static int keeps_same(int c)
 #endif
 }
 
+/* Whether contender c has a live disk. */
+static int has_disk(int c)
+{
+#if defined BEFORE && !defined BEFORE_DISK
+    return c != EARLIER;
+#else
+    (void)c;
+    return 1;
+#endif
+}
+
 static void compare(int c)
 {
-    if (answered != answered_left || answer_bytes != answer_bytes_left || memcmp(answers, answers_left, sizeof answers) != 0)
+    if (answered != answered_left || answer_bytes != answer_bytes_left || memcmp(answers, answers_left, answers_len) != 0)
         fail("two contenders give different answers");
     if (!same_others(&used, &left) || (keeps_same(c) && !same_branches(&used, &left)))
         fail("two contenders leave different stores");
+    if (has_disk(c) ? !same_disks(&used, &left) : !same_disks(&used, &found))
+        fail("two contenders leave different live disks");
 }
 
 /* The first n contenders take turns; what is short is run several times a turn. */

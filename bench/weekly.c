@@ -2,7 +2,8 @@
    are renamed before_fresh and before_batch, each on a store of its own. A week is one batch: a page is written, the moment marked,
    another page tried, and the volume set back to that moment, so that each branch is cut from the one of the week before. Twelve times
    in 52 weeks a batch with a reclaim follows, to now as it was a year ago. A contender that is refused with 7 stops there. Answers are
-   compared as long as nobody is refused, and the tables of the library and of plain C after every reclaim. Times are of the processor.
+   compared as long as nobody is refused, and the tables and live disks of the library and of plain C after every reclaim. Times are
+   of the processor.
    usage: weekly [YEARS]      of 52 weeks, by default 100 */
 #define _POSIX_C_SOURCE 200809L
 #include <stdio.h>
@@ -65,6 +66,7 @@ static void make(struct areas *s)
     if (kizmoolet_fresh(PAGES, s->head, sizeof s->head, s->branches, s->branches_len, s->records, s->records_len, s->places,
             s->places_len, s->names, sizeof s->names, s->slab, s->slab_len) != 0)
         fail("a fresh store was refused");
+    lend_disk(s);
 }
 
 /* A batch on a contender's store; 7 if its last request was refused with that. */
@@ -74,8 +76,8 @@ static unsigned send(int c, const struct kizmoolet_requests *requests, size_t co
     uint64_t answered, taken, sent, rows, records = head_records(s);
     double began = seconds();
     uint32_t stop = batches[c](s->head, sizeof s->head, s->branches, s->branches_len, s->records, s->records_len, s->places,
-        s->places_len, s->names, sizeof s->names, s->slab, s->slab_len, batch, requests->length, all[c].answers, sizeof all[c].answers,
-        &answered, &taken, &sent, &rows);
+        s->places_len, s->names, sizeof s->names, s->slab, s->slab_len, s->disk, s->disk_len, s->marks, s->marks_len, batch,
+        requests->length, all[c].answers, sizeof all[c].answers, &answered, &taken, &sent, &rows);
     *took += seconds() - began;
     if (requests->failed || stop != 0 || answered != count || rows != records)
         fail("a batch was not carried out to its end, or not all record rows were read");
@@ -99,7 +101,8 @@ static void compare(int c, int tables)
     if (tables && c == PLAIN
         && (memcmp(a->head, b->head, sizeof a->head) != 0 || memcmp(a->branches, b->branches, a->branches_len) != 0
             || memcmp(a->records, b->records, a->records_len) != 0 || memcmp(a->places, b->places, a->places_len) != 0
-            || memcmp(a->slab, b->slab, a->slab_len) != 0))
+            || memcmp(a->slab, b->slab, a->slab_len) != 0 || memcmp(a->disk, b->disk, a->disk_len) != 0
+            || memcmp(a->marks, b->marks, a->marks_len) != 0))
         fail("two contenders leave different stores");
 }
 

@@ -5,15 +5,15 @@
  * present one, now, is open, and a write goes there. All memory is the caller's; a call keeps nothing from one to the next,
  * allocates nothing, opens nothing, and always returns.
  *
- * What both functions do, for all lengths and all bytes, is proved: crates/kizmoolet in the repository, definitions
- * freshBytes and batchBytes. That holds for callers who keep the duties below.
+ * What the four functions do, for all lengths and all bytes, is proved: crates/kizmoolet in the repository. That holds for callers
+ * who keep the duties below.
  *
  *
  * THE CALLER'S DUTIES
  *
  * 1. Each pointer and the length behind it name an area of that many bytes that may be read; areas passed without const, and
- *    the four counts, may also be written. A null pointer only with length 0, and never for a count.
- * 2. No two areas overlap, no area overlaps a count, and no two counts overlap.
+ *    the numbers that are told through a pointer, may also be written. A null pointer only with length 0, and never for a number.
+ * 2. No two areas overlap, no area overlaps a number, and no two numbers overlap.
  * 3. Nobody else writes to the areas during a call, or reads those that it may change. Calls on different stores may run at
  *    the same time.
  * 4. KIZMOOLET_STACK_BYTES of stack are free: the tables' numbers stand there during the call. The usual 8 MB of a main
@@ -21,9 +21,14 @@
  * 5. Head, tables and slab belong to the caller, who keeps them between calls as the last call left them, and passes the same
  *    six areas, with the same lengths, to the next. A copy of the six areas is a copy of the store; of the slab it needs the
  *    pages in use alone (below, PAGES PACKED TOWARDS THE FRONT).
+ * 6. Live disk and marks, too, are kept as the last call left them. After kizmoolet_fresh, which leaves them alone, and whenever
+ *    somebody else wrote to disk, marks or store, the caller makes every page stale before the next call (kizmoolet_make_stale of
+ *    kizmoolet_requests.h); where the new volume has another size, disk and marks get its size. A copy of a store has a live disk
+ *    of its own, which begins with every page stale.
  *
- * No other duty: wrong lengths and unsound contents are refused (1, 2, 3). A call that is refused so writes to no area; the four
- * counts of kizmoolet_batch are written, three of them with zeros, the fourth as is said below (HOW FAR THE TABLE CHECK CAME).
+ * No other duty: wrong lengths and unsound contents are refused (1, 2, 3, 18). A call that is refused so writes to no area; the
+ * four counts of kizmoolet_batch are written, three of them with zeros, the fourth as is said below (HOW FAR THE TABLE CHECK CAME),
+ * and what the other functions tell is zero.
  *
  *
  * WHAT IT NEEDS
@@ -41,6 +46,12 @@
  * table check"): on the largest tables with all rows in use 0.28 to 0.69 ms, and up to 2.8 ms where as many moments as can be are
  * missing between the branches below the floor; on a fresh store of that size 0.20 to 0.24 ms; on small tables 14 to 16 us, about
  * what it takes to clear the 1.1 MB of stack.
+ *
+ * A live read and a copying step decode and check just so, the marks too, and encode nothing. A step looks up and copies each page
+ * that it brings to date, and passes over the marks before; a lookup passes up the branches to the one that has the page, or, where
+ * there is none, to the first. With a live disk a write makes one copy more, and a revert one pass over the marks. Measured on a
+ * volume of 65,536 pages (docs/BENCHMARKS.md, "The live disk"): a live read 0.20 to 0.24 ms; all pages copied by one step 5 to 6 ms
+ * where pages are found at once, 0.21 s where each lookup passes some 2,000 branches; by steps of 64 pages 0.21 to 0.50 s.
  *
  *
  * THE SIX AREAS OF A STORE
@@ -61,6 +72,22 @@
  * page written at each moment, and a branch for each revert, until a reclaim frees them.
  *
  *
+ * THE LIVE DISK
+ *
+ * The disk that the relays read, as it is at now, lent beside the store:
+ *
+ *   disk      256 bytes for each address, A pages.
+ *   marks     a byte for each address: 1 if the page is current, plus 2 if it is blank, that is, if the address has no page.
+ *
+ * A write goes to both: the page's bytes to the disk, and its mark becomes 1. A revert makes every page stale (marks 0 and 2) and
+ * leaves the disk's bytes and the blank marks. Other requests, and refused ones, touch neither. kizmoolet_copy_step brings up to
+ * `budget` stale pages to date, lowest address first: one that a read at now finds is copied to the disk, mark 1; where it finds
+ * none, the mark becomes 3 and the bytes stay. With a budget of n, A divided by n, rounded up, steps leave no page stale, if no
+ * revert comes between; batches without one may. kizmoolet_live_read tells where the page of an address lies at once, without
+ * waiting: on the disk if it is current, else in the slab. If every page began stale and duty 6 is kept, that is the page that a
+ * read at now gives. A stale page's blank mark says nothing.
+ *
+ *
  * HOW FAR THE TABLE CHECK CAME
  *
  * The fourth count of kizmoolet_batch, rows_read, says how many record rows the table check read, from the first on:
@@ -70,7 +97,7 @@
  *                   place, or the place row, which does not name it) or against the row before (the order). It lies in the 12
  *                   bytes from 12 (n - 1) on of the record table. Where n is the record count, it may also be that no row breaks a
  *                   rule and only the number of places in use is wrong; where n is 0, it is that;
- *   with all else   the record count of the head as it was lent: all counted rows were read, and none breaks a rule.
+ *   with all else   the record count of the head as it was lent, with 18 too: all counted rows were read, and none breaks a rule.
  *
  *
  * WHAT A RECLAIM LEAVES
@@ -132,11 +159,12 @@
  *
  * THE NUMBERS
  *
- * The result of a call is 0 or the number of what refused or stopped it. 4 to 10 and 15 to 17 are never a result: they stand in
- * a request's answer, and the batch goes on. A refused request alters nothing.
+ * The result of a call is 0 or the number of what refused or stopped it. Of a batch 4 to 10 and 15 to 17 are never the result: they
+ * stand in a request's answer, and the batch goes on. A refused request alters nothing.
  *
- * Where several apply: 1, 2, 3 in this order; of a request 11 (fewer than 7 bytes), 12, 13, 11 (page or name), then its own
- * refusals (write 4, 5, 6; read 4, 8, 9; revert 8, 9, 10, 7; reclaim 8, 9; mark 10; name 8, 9, 15, 16; withdraw 17), then 14.
+ * Where several apply: 1, 2, 3, 18 in this order, then 4 of a live read; of a request 11 (fewer than 7 bytes), 12, 13, 11 (page or
+ * name), then its own refusals (write 4, 5, 6; read 4, 8, 9; revert 8, 9, 10, 7; reclaim 8, 9; mark 10; name 8, 9, 15, 16; withdraw
+ * 17), then 14.
  */
 #ifndef KIZMOOLET_H
 #define KIZMOOLET_H
@@ -145,22 +173,23 @@
 #include <stdint.h>
 
 /* The version of this header and of the archive beside it; CHANGELOG.md says what changed. */
-#define KIZMOOLET_VERSION "0.5.0"
+#define KIZMOOLET_VERSION "0.6.0"
 #define KIZMOOLET_VERSION_MAJOR 0
-#define KIZMOOLET_VERSION_MINOR 5
+#define KIZMOOLET_VERSION_MINOR 6
 #define KIZMOOLET_VERSION_PATCH 0
 
 #define KIZMOOLET_OK 0u
 
-/* Result of kizmoolet_fresh (1) and kizmoolet_batch (1, 2, 3): nothing is written but the counts, zero but for the
-   record rows read (HOW FAR THE TABLE CHECK CAME). */
+/* Result of kizmoolet_fresh (1) and of the other functions (1, 2, 3, 18): nothing is written but what is told through a pointer,
+   zero but for the record rows read (HOW FAR THE TABLE CHECK CAME). */
 #define KIZMOOLET_OUT_OF_RANGE 1u       /* head, counts or lengths outside their ranges, a table no whole number of rows, or
                                            floor above now */
 #define KIZMOOLET_BRANCHES_UNSOUND 2u   /* branch rows or names not sound */
 #define KIZMOOLET_RECORDS_UNSOUND 3u    /* records or places not sound; rows_read says which row */
+#define KIZMOOLET_DISK_UNFIT 18u        /* the live disk is not 256 x A bytes, its marks are not A in number, or one is above 3 */
 
-/* Refusal in an answer; the batch goes on. */
-#define KIZMOOLET_ADDRESS_TOO_HIGH 4u   /* write, read: address at or above A */
+/* Refusal in an answer; the batch goes on. 4 is also the result of a live read. */
+#define KIZMOOLET_ADDRESS_TOO_HIGH 4u   /* write, read, live read: address at or above A */
 #define KIZMOOLET_RECORDS_FULL 5u       /* write: it needs a row, and the record table is full */
 #define KIZMOOLET_PLACES_FULL 6u        /* write: it needs a place, and none is free */
 #define KIZMOOLET_BRANCHES_FULL 7u      /* revert: the branch table is full (WHAT A RECLAIM LEAVES says what makes room) */
@@ -203,6 +232,15 @@
 #define KIZMOOLET_MOST_RECORDS 65536u
 #define KIZMOOLET_MOST_PLACES 65536u
 
+/* Marks of a page of the live disk: one of these, both together, or 0. */
+#define KIZMOOLET_MARK_CURRENT 1u
+#define KIZMOOLET_MARK_BLANK 2u
+
+/* Where the page of a live read lies. */
+#define KIZMOOLET_AREA_NONE 0u
+#define KIZMOOLET_AREA_DISK 1u
+#define KIZMOOLET_AREA_SLAB 2u
+
 /* The most names; as many name rows are lent, no more and no fewer, and their bytes. */
 #define KIZMOOLET_MOST_NAMES 32u
 #define KIZMOOLET_NAMES_BYTES 384u
@@ -227,7 +265,7 @@
 #define KIZMOOLET_DATE_BYTES 4u
 #define KIZMOOLET_PAGE_ANSWER_BYTES 265u
 
-/* Enough stack for a call of either function. Measured: kizmoolet_fresh 1.10 MB, kizmoolet_batch 1.38 MB, whatever the sizes of
+/* Enough stack for a call of any of the functions. Measured: kizmoolet_batch 1.38 MB, the others 1.10 MB, whatever the sizes of
    the tables and the batch. */
 #define KIZMOOLET_STACK_BYTES 1572864u
 
@@ -237,7 +275,7 @@ extern "C" {
 
 /*
  * Makes a fresh store of `size` pages in the six areas, whatever they hold: now 0, floor 0, no page, no name. The slab is not
- * written.
+ * written. Live disk and marks are not passed: the caller makes every page stale (THE CALLER'S DUTIES, 6).
  * Result: 0; or 1, and nothing is written, where the size or a length is out of range.
  */
 uint32_t kizmoolet_fresh(uint32_t size, uint8_t *head, size_t head_len, uint8_t *branches, size_t branches_len,
@@ -247,14 +285,49 @@ uint32_t kizmoolet_fresh(uint32_t size, uint8_t *head, size_t head_len, uint8_t 
 /*
  * Checks the tables, then carries out the requests of a batch in order, each on the store that the last one left.
  * Result: 0 where all requests were answered, else the number at which the batch stopped.
- * Always written, zero where the result is 1, 2 or 3: the requests answered, refused ones included; the bytes of those
+ * Always written, zero where the result is 1, 2, 3 or 18: the requests answered, refused ones included; the bytes of those
  * requests, which is where in the batch the next one begins; and the bytes of their answers.
  * Always written, too: the record rows that the table check read (HOW FAR THE TABLE CHECK CAME).
  */
 uint32_t kizmoolet_batch(uint8_t *head, size_t head_len, uint8_t *branches, size_t branches_len,
     uint8_t *records, size_t records_len, uint8_t *places, size_t places_len, uint8_t *names, size_t names_len,
-    uint8_t *slab, size_t slab_len, const uint8_t *batch, size_t batch_len, uint8_t *answers, size_t answers_len,
+    uint8_t *slab, size_t slab_len, uint8_t *disk, size_t disk_len, uint8_t *marks, size_t marks_len,
+    const uint8_t *batch, size_t batch_len, uint8_t *answers, size_t answers_len,
     uint64_t *answered, uint64_t *request_bytes, uint64_t *answer_bytes, uint64_t *rows_read);
+
+/*
+ * A live read: checks the tables as a batch does, and tells where the page of an address lies, as it is at now. No area is written.
+ * Result: 0; 1, 2, 3 or 18; or 4, where the address is at or above A.
+ * Always written, zero where the result is not 0 and where the address has no page: the area (KIZMOOLET_AREA_DISK or
+ * KIZMOOLET_AREA_SLAB) and the offset from which the page's 256 bytes lie there. kizmoolet_live_page makes a pointer of them; the
+ * page is the lent bytes themselves, good until the next call that may write to them.
+ */
+uint32_t kizmoolet_live_read(const uint8_t *head, size_t head_len, const uint8_t *branches, size_t branches_len,
+    const uint8_t *records, size_t records_len, const uint8_t *places, size_t places_len,
+    const uint8_t *names, size_t names_len, const uint8_t *slab, size_t slab_len,
+    const uint8_t *disk, size_t disk_len, const uint8_t *marks, size_t marks_len,
+    uint32_t address, uint32_t *area, uint64_t *offset);
+
+/*
+ * A copying step: checks the tables as a batch does, and brings the stale pages of the lowest addresses to date, at most `budget`.
+ * Only disk and marks are written. Result: 0; or 1, 2, 3 or 18.
+ * Always written, zero where the result is not 0: how many pages it brought to date, blank ones counted; that is the smaller of
+ * the budget and of the stale pages. A budget of 0 is no refusal.
+ */
+uint32_t kizmoolet_copy_step(const uint8_t *head, size_t head_len, const uint8_t *branches, size_t branches_len,
+    const uint8_t *records, size_t records_len, const uint8_t *places, size_t places_len,
+    const uint8_t *names, size_t names_len, const uint8_t *slab, size_t slab_len,
+    uint8_t *disk, size_t disk_len, uint8_t *marks, size_t marks_len, uint32_t budget, uint64_t *copied);
+
+/* The page that a live read told of: its first byte, or a null pointer where there is none. */
+static inline const uint8_t *kizmoolet_live_page(uint32_t area, uint64_t offset, const uint8_t *disk, const uint8_t *slab)
+{
+    if (area == KIZMOOLET_AREA_DISK)
+        return disk + offset;
+    if (area == KIZMOOLET_AREA_SLAB)
+        return slab + offset;
+    return NULL;
+}
 
 #ifdef __cplusplus
 }

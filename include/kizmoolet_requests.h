@@ -1,6 +1,6 @@
 /*
- * Requests packed and answers unpacked, and what head, places and names tell, for hosts of kizmoolet.h. All functions are inline:
- * there is nothing to link.
+ * Requests packed and answers unpacked, what head, places and names tell, and the marks of a live disk, for hosts of kizmoolet.h.
+ * All functions are inline: there is nothing to link.
  *
  *     struct kizmoolet_requests requests = kizmoolet_requests_in(batch, sizeof batch);
  *     kizmoolet_add_write(&requests, 5, page);
@@ -100,6 +100,24 @@ static inline size_t kizmoolet_slab_in_use(const uint8_t *places, size_t places_
     while (rows > 0 && kizmoolet_number_at(places + (rows - 1) * KIZMOOLET_PLACE_BYTES) == 0)
         rows--;
     return rows * KIZMOOLET_PAGE_BYTES;
+}
+
+/* How many pages of a live disk are stale: what copying steps have still to bring to date. */
+static inline size_t kizmoolet_stale_pages(const uint8_t *marks, size_t marks_len)
+{
+    size_t i, stale = 0;
+    for (i = 0; i < marks_len; i++)
+        stale += (marks[i] & KIZMOOLET_MARK_CURRENT) == 0;
+    return stale;
+}
+
+/* Makes every page of a live disk stale, blank marks kept: after kizmoolet_fresh, or where somebody else wrote to disk or store.
+   Marks above 3, which would be refused with 18, become 0 or 2. */
+static inline void kizmoolet_make_stale(uint8_t *marks, size_t marks_len)
+{
+    size_t i;
+    for (i = 0; i < marks_len; i++)
+        marks[i] = (uint8_t)(marks[i] & KIZMOOLET_MARK_BLANK);
 }
 
 /* An empty list of requests, to be added in this area. */

@@ -7,21 +7,36 @@
                                                    the record row that breaks a rule, counted from 0
      host grow IMAGE BRANCHES RECORDS PLACES       the same store over larger tables
      host copy IMAGE TO [BRANCHES RECORDS PLACES]  a copy of the store in the new file TO, without what lies in the slab
-                                                   behind the last page in use; with larger tables if they are given
+                                                   behind the last page in use and without the live disk; with larger
+                                                   tables if they are given
+     host live IMAGE ADDRESS                       the page of the address as it is at now, 256 bytes, goes to standard
+                                                   output, or nothing where there is none; the area and the offset at
+                                                   which it lies, and the mark of the address, go to standard error
+     host step IMAGE N                             brings up to N stale pages of the live disk to date; how many there were,
+                                                   and how many are stale still, goes to standard error
+     host disk IMAGE OUT                           the live disk as it is, in the new file OUT; how many of its pages are
+                                                   stale, and how many current ones are blank, goes to standard error
 
    Options of run:
      --stop-at-refusal   the requests after the first refused one are not carried out, and not answered
      --all-or-nothing    where a request is refused or the batch stops, the image stays as it was
      --copy NAME         before the image is replaced, it is copied to NAME, in its own folder
 
-   The image file: 24 bytes of header (the letters KZIMAGE2; branch rows, record rows and place rows, four bytes
-   each; CRC-32 of all other bytes of the file, four bytes), then head, branch table, record table, place table, name
-   table and page slab, just as the library takes them. All numbers are most significant byte first. The slab may end
-   behind any whole page from the last one in use on: what the file leaves out is zero in memory. A copy leaves out all
-   that it can; an image that is replaced is written whole.
+   The image file: 28 bytes of header (the letters KZIMAGE3; branch rows, record rows and place rows, four bytes
+   each; CRC-32 of all other bytes of the file, four bytes; how many pages of the live disk the file has, four bytes),
+   then head, branch table, record table, place table, name table, marks, live disk and page slab, just as the library
+   takes them. All numbers are most significant byte first. Marks and live disk are in the file for every address, or for
+   none: then every page is stale, with mark 0, and zero in memory. The slab may end behind any whole page from the last
+   one in use on: what the file leaves out is zero in memory. A copy leaves out all that it can; an image that is replaced
+   is written whole.
 
-   An image of before 0.3.0 begins with KZIMAGE1 and has a head of 20 bytes and no name table. It is opened as a store
-   without names; what only reads leaves it as it is, and the first change writes it in the form above.
+   An image of before 0.6.0 begins with KZIMAGE2 and has neither the number of disk pages nor marks and disk; one of before
+   0.3.0 begins with KZIMAGE1, and has besides a head of 20 bytes and no name table. They are opened as stores with every
+   page of the live disk stale, and without names; what only reads leaves them as they are, and the first change writes
+   them in the form above.
+
+   A step is a change like any other: a cut of power during or between steps leaves disk and marks as one of the steps
+   left them, and the next one goes on from there.
 
    The file is never changed in place. The new image is written beside it under another name and forced to the
    disk, then takes over the name by rename, and the folder is forced to the disk: a cut of power at any moment
@@ -38,9 +53,9 @@
    not replaced; it can be read and copied. The image itself is locked, so that hosts wait for each other at one image,
    and not at others of the folder.
 
-   Exit status: 0 all requests were accepted, or the image was made; 5 all were answered, some refused; 3 the batch
-   stopped with a number other than 0; 6 --all-or-nothing, something was refused or stopped, and the image is as it
-   was; 1 something failed, and the image is as it was; 4 something failed after the image got its new bytes; 2 usage. */
+   Exit status: 0 all requests were accepted, or the file was made; 5 all were answered, some refused; 3 the library
+   stopped with a number other than 0; 6 --all-or-nothing, something was refused or stopped, and the image is as it was;
+   1 something failed, and the image is as it was; 4 something failed after the image got its new bytes; 2 usage. */
 #define _GNU_SOURCE
 #include <dirent.h>
 #include <errno.h>
@@ -61,11 +76,15 @@
 #include "kizmoolet_requests.h"
 
 enum {
-    HEADER = 24,
+    HEADER = 28,
     CHECKSUM_AT = 20,
+    DISK_AT = 24, /* how many pages of the live disk the file has */
+    FORM = 3,     /* the last of the letters that an image begins with */
     HEAD = KIZMOOLET_HEAD_BYTES,
     PAGE = KIZMOOLET_PAGE_BYTES,
-    OLD_HEAD = 20, /* of before 0.3.0: without the number of names */
+    LIVE = 1 + PAGE, /* a page of the live disk and its mark */
+    OLD_HEADER = 24, /* of before 0.6.0: without the number of disk pages */
+    OLD_HEAD = 20,   /* of before 0.3.0: without the number of names */
     NAMES = KIZMOOLET_NAMES_BYTES,
     WRITE = KIZMOOLET_WRITE, /* operations */
     READ = KIZMOOLET_READ,
@@ -79,8 +98,7 @@ enum {
     STACK_NEEDED = 2 << 20 /* the library takes 1.38 MB of it */
 };
 
-static const char magic[8] = {'K', 'Z', 'I', 'M', 'A', 'G', 'E', '2'};
-static const char old_magic[8] = {'K', 'Z', 'I', 'M', 'A', 'G', 'E', '1'}; /* of before 0.3.0 */
+static const char magic[8] = {'K', 'Z', 'I', 'M', 'A', 'G', 'E', '0' + FORM};
 
 static const char aside_word[] = ".kizmoolet-";
 
@@ -92,12 +110,26 @@ struct place {
     char aside[NAME_MAX + 1];
 };
 
-/* An image in memory: all its bytes, how many of them a file has (without the end of the slab), where its parts stand. */
+/* An image in memory: all its bytes, how many a file has of marks and disk and of the slab, where its parts stand. */
 struct image {
     uint8_t *bytes;
-    size_t length, in_file;
-    uint8_t *head, *branches, *records, *places, *names, *slab;
-    size_t branches_len, records_len, places_len, slab_len;
+    size_t length, live_in_file, slab_in_file;
+    uint8_t *head, *branches, *records, *places, *names, *marks, *disk, *slab;
+    size_t branches_len, records_len, places_len, marks_len, disk_len, slab_len;
+};
+
+/* The areas of an image, as the library takes them. */
+#define STORE(image) \
+    (image)->head, HEAD, (image)->branches, (image)->branches_len, (image)->records, (image)->records_len, \
+        (image)->places, (image)->places_len, (image)->names, NAMES, (image)->slab, (image)->slab_len
+#define DISK(image) (image)->disk, (image)->disk_len, (image)->marks, (image)->marks_len
+
+/* What a file has, part behind part. */
+struct content {
+    struct {
+        const uint8_t *bytes;
+        size_t length;
+    } part[3];
 };
 
 /* A copy that was made for a change: removed again where the change fails. */
@@ -150,32 +182,45 @@ static uint32_t crc32_on(uint32_t before, const uint8_t *bytes, size_t length) {
     return ~crc;
 }
 
-static uint32_t checksum(const struct image *image) {
-    uint32_t crc = crc32_on(0, image->bytes, CHECKSUM_AT);
-    return crc32_on(crc, image->bytes + HEADER, image->in_file - HEADER);
+static size_t image_length(uint32_t branches, uint32_t records, uint32_t places, uint32_t disk_pages) {
+    return (size_t)HEADER + HEAD + 12 * (size_t)branches + 12 * (size_t)records + (4 + PAGE) * (size_t)places + NAMES +
+        LIVE * (size_t)disk_pages;
 }
 
-static size_t image_length(uint32_t branches, uint32_t records, uint32_t places) {
-    return (size_t)HEADER + HEAD + 12 * (size_t)branches + 12 * (size_t)records + (4 + PAGE) * (size_t)places + NAMES;
-}
-
-/* Where the parts stand, by the numbers of rows in the header. */
-static void lay_out(struct image *image) {
+/* Where the parts stand, by the numbers of rows in the header and the pages of the live disk. */
+static void lay_out(struct image *image, uint32_t disk_pages) {
     image->branches_len = 12 * (size_t)number_at(image->bytes + 8);
     image->records_len = 12 * (size_t)number_at(image->bytes + 12);
     image->places_len = 4 * (size_t)number_at(image->bytes + 16);
+    image->marks_len = disk_pages;
+    image->disk_len = PAGE * image->marks_len;
     image->slab_len = image->places_len / 4 * PAGE;
     image->head = image->bytes + HEADER;
     image->branches = image->head + HEAD;
     image->records = image->branches + image->branches_len;
     image->places = image->records + image->records_len;
     image->names = image->places + image->places_len;
-    image->slab = image->names + NAMES;
+    image->marks = image->names + NAMES;
+    image->disk = image->marks + image->marks_len;
+    image->slab = image->disk + image->disk_len;
 }
 
-/* The bytes of the image up to the end of the last page in use. */
-static size_t length_in_use(const struct image *image) {
-    return (size_t)(image->slab - image->bytes) + kizmoolet_slab_in_use(image->places, image->places_len);
+/* The file of an image: header and tables; marks and disk, or neither; of the slab as much as is to be in it. */
+static struct content file_of(struct image *image) {
+    size_t tables = (size_t)(image->marks - image->bytes);
+    struct content file = {
+        {{image->bytes, tables}, {image->marks, image->live_in_file}, {image->slab, image->slab_in_file}}};
+    put_number(image->bytes + DISK_AT, (uint32_t)(image->live_in_file / LIVE));
+    uint32_t crc = crc32_on(0, image->bytes, CHECKSUM_AT);
+    crc = crc32_on(crc, image->bytes + CHECKSUM_AT + 4, tables - CHECKSUM_AT - 4);
+    crc = crc32_on(crc, image->marks, image->live_in_file);
+    crc = crc32_on(crc, image->slab, image->slab_in_file);
+    put_number(image->bytes + CHECKSUM_AT, crc);
+    return file;
+}
+
+static size_t length_of(const struct content *file) {
+    return file->part[0].length + file->part[1].length + file->part[2].length;
 }
 
 /* The length of the file name that an aside name is for: .NAME.kizmoolet-NUMBER. 0 where it is no aside name. */
@@ -284,61 +329,88 @@ static int write_all(int file, const uint8_t *bytes, size_t length) {
     return 0;
 }
 
-/* The bytes that an image of before 0.3.0 lacks: 0 or those of the number of names and the name table. */
-static size_t lacking(const uint8_t *header) { return memcmp(header, old_magic, 8) == 0 ? HEAD - OLD_HEAD + NAMES : 0; }
+/* The last of the letters that an image begins with: 3, 2 of before 0.6.0, 1 of before 0.3.0; 0 where it is none. */
+static int form_of(const uint8_t *header) {
+    int form = header[7] - '0';
+    return memcmp(header, magic, 7) == 0 && form >= 1 && form <= FORM ? form : 0;
+}
+
+/* Zeros in the midst of bytes, of which there are so many; those behind move up. How many there are then. */
+static size_t put_in(uint8_t *bytes, size_t have, size_t at, size_t zeros) {
+    memmove(bytes + at + zeros, bytes + at, have - at);
+    memset(bytes + at, 0, zeros);
+    return have + zeros;
+}
+
+/* The pages of the live disk: those that the file has; where it has none, as many as the head says, if so many can be. */
+static uint32_t disk_pages(const uint8_t *header) {
+    uint32_t in_file = number_at(header + DISK_AT), size = number_at(header + HEADER + KIZMOOLET_HEAD_PAGES_AT);
+    return in_file ? in_file : size <= ROWS_MOST ? size : 0;
+}
 
 /* How long an image with this header is, of which a file has so many bytes; 0 where that is no image: a file has all
-   tables, and whole pages of the slab. */
-static size_t whole_length(const uint8_t *header, size_t in_file) {
-    size_t places = number_at(header + 16);
-    size_t whole = image_length(number_at(header + 8), number_at(header + 12), (uint32_t)places);
-    in_file += lacking(header);
-    if (memcmp(header, magic, 8) != 0 && !lacking(header))
+   tables, marks and disk for all the pages it says, and whole pages of the slab. */
+static size_t whole_length(const uint8_t *header, size_t have, int form) {
+    uint32_t places = number_at(header + 16), in_file = number_at(header + DISK_AT);
+    size_t whole = image_length(number_at(header + 8), number_at(header + 12), places, in_file);
+    have += form < 2 ? HEAD - OLD_HEAD + NAMES : 0;
+    if (whole > image_length(BRANCHES_MOST, ROWS_MOST, ROWS_MOST, ROWS_MOST) || have > whole ||
+        whole - have > PAGE * (size_t)places || (whole - have) % PAGE != 0)
         return 0;
-    if (whole > image_length(BRANCHES_MOST, ROWS_MOST, ROWS_MOST) || in_file > whole ||
-        whole - in_file > PAGE * places || (whole - in_file) % PAGE != 0)
-        return 0;
-    return whole;
+    return whole + LIVE * (size_t)(disk_pages(header) - in_file);
 }
 
-/* An image of before 0.3.0 becomes one without names. There is room for the whole image. */
-static void bring_up(struct image *image) {
-    uint8_t *from = image->bytes + HEADER + OLD_HEAD, *to = image->bytes + HEADER + HEAD;
-    lay_out(image);
-    size_t tables = image->branches_len + image->records_len + image->places_len;
-    memmove(to + tables + NAMES, from + tables, image->in_file - HEADER - OLD_HEAD - tables);
-    memset(to + tables, 0, NAMES);
-    memmove(to, from, tables);
-    memset(from, 0, HEAD - OLD_HEAD);
-    image->in_file += lacking(image->bytes);
-    memcpy(image->bytes, magic, 8);
-    put_number(image->bytes + CHECKSUM_AT, checksum(image));
+/* What a file leaves out, of which there are so many bytes, is put in as zeros. There is room for the whole image. */
+static void bring_up(struct image *image, size_t have, int form) {
+    uint8_t *bytes = image->bytes;
+    uint32_t in_file = number_at(bytes + DISK_AT);
+    lay_out(image, disk_pages(bytes));
+    if (form < 2) {
+        have = put_in(bytes, have, HEADER + OLD_HEAD, HEAD - OLD_HEAD);
+        have = put_in(bytes, have, (size_t)(image->names - bytes), NAMES);
+    }
+    if (in_file == 0)
+        have = put_in(bytes, have, (size_t)(image->marks - bytes), LIVE * image->marks_len);
+    memset(bytes + have, 0, image->length - have);
+    memcpy(bytes, magic, 8);
+    image->live_in_file = LIVE * (size_t)in_file;
+    image->slab_in_file = have - (size_t)(image->slab - bytes);
 }
 
-/* The image in a file. What the file leaves out of the slab is zero. */
+/* The image in a file. What the file leaves out is zero. */
 static struct image load(const struct place *place, int file, const struct stat *found) {
     struct image image;
-    if (found->st_size < HEADER + OLD_HEAD || (uintmax_t)found->st_size > image_length(BRANCHES_MOST, ROWS_MOST, ROWS_MOST))
+    size_t have = (size_t)found->st_size;
+    if (found->st_size < OLD_HEADER + OLD_HEAD || have > image_length(BRANCHES_MOST, ROWS_MOST, ROWS_MOST, ROWS_MOST))
         fail(1, "%s is no image", place->name);
-    image.in_file = (size_t)found->st_size;
-    image.bytes = room(image.in_file + 1);
-    if (read_up_to(file, image.bytes, image.in_file) != image.in_file)
+    image.bytes = room(have + HEADER - OLD_HEADER + 1);
+    if (read_up_to(file, image.bytes, have) != have)
         fail(1, "%s changed its length while it was read", place->name);
-    image.length = whole_length(image.bytes, image.in_file);
+    uint32_t crc = crc32_on(crc32_on(0, image.bytes, CHECKSUM_AT), image.bytes + CHECKSUM_AT + 4, have - CHECKSUM_AT - 4);
+    int form = form_of(image.bytes);
+    if (form < FORM)
+        have = put_in(image.bytes, have, DISK_AT, HEADER - OLD_HEADER);
+    image.length = form ? whole_length(image.bytes, have, form) : 0;
     if (image.length == 0)
         fail(1, "%s is no image, or not as long as its header says", place->name);
-    if (number_at(image.bytes + CHECKSUM_AT) != checksum(&image))
+    if (number_at(image.bytes + CHECKSUM_AT) != crc)
         fail(1, "%s is damaged: its checksum is not that of its bytes", place->name);
     image.bytes = realloc(image.bytes, image.length);
     if (!image.bytes)
         fail(1, "no memory for %zu bytes", image.length);
-    if (lacking(image.bytes))
-        bring_up(&image);
-    memset(image.bytes + image.in_file, 0, image.length - image.in_file);
-    lay_out(&image);
-    if (image.in_file < length_in_use(&image))
+    bring_up(&image, have, form);
+    if (image.slab_in_file < kizmoolet_slab_in_use(image.places, image.places_len))
         fail(1, "%s is no image: it ends before its last page in use", place->name);
     return image;
+}
+
+/* The same image in memory of its own. */
+static struct image twin_of(const struct image *image) {
+    struct image twin = *image;
+    twin.bytes = room(image->length);
+    memcpy(twin.bytes, image->bytes, image->length);
+    lay_out(&twin, (uint32_t)image->marks_len);
+    return twin;
 }
 
 static void must_be_writable(const struct place *place, const struct stat *found) {
@@ -351,15 +423,22 @@ static void must_be_writable(const struct place *place, const struct stat *found
     close(file);
 }
 
+static int write_content(int file, const struct content *content) {
+    for (int at = 0; at < 3; at++)
+        if (write_all(file, content->part[at].bytes, content->part[at].length) != 0)
+            return -1;
+    return 0;
+}
+
 /* Writes a file that is not there yet, forced to the disk. It stays open and locked: a host that opens it under its
    new name waits until this one has ended, when the folder too is on the disk. */
-static void write_new(const struct place *place, const char *name, const struct image *image, const struct stat *like) {
+static void write_new(const struct place *place, const char *name, const struct content *content, const struct stat *like) {
     struct stat made;
     int file = openat(place->folder, name, O_WRONLY | O_CREAT | O_EXCL | O_CLOEXEC, 0600);
     if (file < 0)
         fail(1, "%s: %s", name, strerror(errno));
     flock(file, LOCK_EX | LOCK_NB);
-    if (write_all(file, image->bytes, image->in_file) != 0 || fstat(file, &made) != 0 ||
+    if (write_content(file, content) != 0 || fstat(file, &made) != 0 ||
         ((made.st_uid != like->st_uid || made.st_gid != like->st_gid) && fchown(file, like->st_uid, like->st_gid) != 0) ||
         fchmod(file, like->st_mode & 07777) != 0 || fsync(file) != 0) {
         int why = errno;
@@ -371,16 +450,17 @@ static void write_new(const struct place *place, const char *name, const struct 
 
 static void force_folder(const struct place *place) {
     if (fsync(place->folder) != 0)
-        fail(4, "the folder of %s: %s; the image has its new bytes, but a cut of power may bring the old ones back",
+        fail(4, "the folder of %s: %s; the file has its new bytes, but a cut of power may bring the old ones back",
             place->name, strerror(errno));
 }
 
 /* The new image beside the old one, forced to the disk; then the name; then the folder, forced to the disk. */
 static void replace(const struct place *place, struct image *image, const struct stat *like) {
-    image->in_file = image->length;
-    put_number(image->bytes + CHECKSUM_AT, checksum(image));
+    image->live_in_file = LIVE * image->marks_len;
+    image->slab_in_file = image->slab_len;
+    struct content file = file_of(image);
     clear_up(place);
-    write_new(place, place->aside, image, like);
+    write_new(place, place->aside, &file, like);
     if (renameat(place->folder, place->aside, place->folder, place->name) != 0) {
         int why = errno;
         unlinkat(place->folder, place->aside, 0);
@@ -389,11 +469,10 @@ static void replace(const struct place *place, struct image *image, const struct
     force_folder(place);
 }
 
-/* A new image under a name that nothing has. */
-static void put_new(const struct place *place, struct image *image, const struct stat *like) {
-    put_number(image->bytes + CHECKSUM_AT, checksum(image));
+/* A new file under a name that nothing has. */
+static void put_new(const struct place *place, const struct content *file, const struct stat *like) {
     clear_up(place);
-    write_new(place, place->aside, image, like);
+    write_new(place, place->aside, file, like);
     int status = renameat2(place->folder, place->aside, place->folder, place->name, RENAME_NOREPLACE);
     if (status != 0 && (errno == EINVAL || errno == ENOSYS)) { /* a file system that cannot: by another name */
         status = linkat(place->folder, place->aside, place->folder, place->name, 0);
@@ -417,20 +496,23 @@ static uint32_t number_in(const char *word, const char *what, uint32_t most) {
     return (uint32_t)value;
 }
 
-static struct image empty_image(uint32_t branches, uint32_t records, uint32_t places) {
+/* All zero: every page of the live disk is stale. */
+static struct image empty_image(uint32_t branches, uint32_t records, uint32_t places, uint32_t pages) {
     struct image image;
-    image.length = image.in_file = image_length(branches, records, places);
+    image.length = image_length(branches, records, places, pages);
     image.bytes = room(image.length);
     memset(image.bytes, 0, image.length);
     memcpy(image.bytes, magic, 8);
     put_number(image.bytes + 8, branches);
     put_number(image.bytes + 12, records);
     put_number(image.bytes + 16, places);
-    lay_out(&image);
+    lay_out(&image, pages);
+    image.live_in_file = LIVE * image.marks_len;
+    image.slab_in_file = image.slab_len;
     return image;
 }
 
-/* Nothing may have the name of a new image. Its mode, and its owner, who is the caller. */
+/* Nothing may have the name of a new file. Its mode, and its owner, who is the caller. */
 static struct stat of_caller(const struct place *place, const char *path, mode_t mode) {
     struct stat like;
     if (fstatat(place->folder, place->name, &like, AT_SYMLINK_NOFOLLOW) == 0)
@@ -453,12 +535,12 @@ static int make(const char *path, char **sizes) {
     umask(mask);
     struct place place = find_place(path);
     struct stat like = of_caller(&place, path, 0666 & ~mask);
-    struct image image = empty_image(branches, records, places);
-    uint32_t refusal = kizmoolet_fresh(size, image.head, HEAD, image.branches, image.branches_len, image.records,
-        image.records_len, image.places, image.places_len, image.names, NAMES, image.slab, image.slab_len);
+    struct image image = empty_image(branches, records, places, size);
+    uint32_t refusal = kizmoolet_fresh(size, STORE(&image));
     if (refusal)
         fail(1, "refusal %lu: size, branches, records and places must each be at least 1", (unsigned long)refusal);
-    put_new(&place, &image, &like);
+    struct content file = file_of(&image);
+    put_new(&place, &file, &like);
     return 0;
 }
 
@@ -471,9 +553,8 @@ struct done {
 static struct done call(
     struct image *image, const uint8_t *batch, size_t batch_len, uint8_t *answers, size_t answers_len) {
     struct done done;
-    done.stop = kizmoolet_batch(image->head, HEAD, image->branches, image->branches_len, image->records,
-        image->records_len, image->places, image->places_len, image->names, NAMES, image->slab, image->slab_len, batch,
-        batch_len, answers, answers_len, &done.answered, &done.request_bytes, &done.answer_bytes, &done.rows_read);
+    done.stop = kizmoolet_batch(STORE(image), DISK(image), batch, batch_len, answers, answers_len, &done.answered,
+        &done.request_bytes, &done.answer_bytes, &done.rows_read);
     return done;
 }
 
@@ -501,6 +582,31 @@ static const char *broken_rule(const struct image *image, uint64_t rows_read) {
         (unsigned long long)rows_read - 1, (unsigned long)number_at(row), (unsigned long)number_at(row + 4),
         (unsigned long)number_at(row + 8), only[0] ? "; or no row does, and " : "", only);
     return words;
+}
+
+/* What is wrong where the stop number is 18, and the way on. */
+static const char *unfit_disk(const struct image *image) {
+    static char words[256];
+    char what[128] = "";
+    uint32_t size = number_at(image->head + KIZMOOLET_HEAD_PAGES_AT);
+    size_t at = 0;
+    while (at < image->marks_len && image->marks[at] <= (KIZMOOLET_MARK_CURRENT | KIZMOOLET_MARK_BLANK))
+        at++;
+    if (image->marks_len != size)
+        snprintf(what, sizeof what, "the live disk has %zu pages, and the volume %lu", image->marks_len,
+            (unsigned long)size);
+    else if (at < image->marks_len)
+        snprintf(what, sizeof what, "page %zu of the live disk has mark %u, and none is above 3", at, image->marks[at]);
+    snprintf(words, sizeof words, "%s; head and tables are sound: host copy makes a store of them, without the live disk",
+        what);
+    return words;
+}
+
+/* Why the library does not take the store, behind the stop number; nothing with 1 and 2, and where a request stopped. */
+static const char *why_not(const struct image *image, const struct done *done) {
+    return done->stop == KIZMOOLET_RECORDS_UNSOUND ? broken_rule(image, done->rows_read)
+        : done->stop == KIZMOOLET_DISK_UNFIT       ? unfit_disk(image)
+                                                   : "";
 }
 
 /* The batch on standard input, in memory that grows with it. */
@@ -557,9 +663,7 @@ struct options {
 
 static const char *several(uint64_t count) { return count == 1 ? "" : "s"; }
 
-static uint32_t branch_count(const struct image *image) {
-    return number_at(image->bytes + HEADER + KIZMOOLET_HEAD_BRANCHES_AT);
-}
+static uint32_t branch_count(const struct image *image) { return number_at(image->head + KIZMOOLET_HEAD_BRANCHES_AT); }
 
 static int run(const char *path, const char *limit, const struct options *options) {
     size_t batch_len, first_end = 0;
@@ -571,9 +675,7 @@ static int run(const char *path, const char *limit, const struct options *option
     struct place place = find_place(path);
     struct stat found;
     int file = open_locked(&place, &found);
-    struct image image = load(&place, file, &found), before = image;
-    before.bytes = room(image.length);
-    memcpy(before.bytes, image.bytes, image.length);
+    struct image image = load(&place, file, &found), before = twin_of(&image);
     struct done done = call(&image, batch, batch_len, answers, answers_len);
     uint64_t refused = refused_of(answers, batch, &done, &first_end);
     if (refused && options->stop_at_refusal) { /* again from the start, and no further than the first one refused */
@@ -586,7 +688,8 @@ static int run(const char *path, const char *limit, const struct options *option
     if (!undone && memcmp(before.bytes, image.bytes, image.length) != 0) {
         must_be_writable(&place, &found);
         if (options->copy) {
-            write_new(&place, options->copy, &before, &found);
+            struct content kept = file_of(&before);
+            write_new(&place, options->copy, &kept, &found);
             copy_name = options->copy;
             copy_folder = place.folder;
             if (fsync(place.folder) != 0)
@@ -603,11 +706,11 @@ static int run(const char *path, const char *limit, const struct options *option
         (unsigned long)done.stop, (unsigned long long)done.answered, several(done.answered), (unsigned long long)refused,
         (unsigned long long)done.request_bytes, (unsigned long long)done.answer_bytes);
     fprintf(stderr, ", %llu record row%s read", (unsigned long long)done.rows_read, several(done.rows_read));
-    if (done.stop == KIZMOOLET_RECORDS_UNSOUND)
-        fprintf(stderr, "; %s", broken_rule(&image, done.rows_read));
+    const char *why = why_not(&image, &done);
+    fprintf(stderr, "%s%s", why[0] ? "; " : "", why);
     if (undone)
         fputs("; nothing was carried out", stderr);
-    if (!undone && (done.stop == KIZMOOLET_OK || done.stop >= KIZMOOLET_CUT_SHORT)) /* the tables are sound */
+    if (!undone && (done.stop == KIZMOOLET_OK || (done.stop >= KIZMOOLET_CUT_SHORT && done.stop <= KIZMOOLET_ANSWERS_FULL)))
         fprintf(stderr, "; branches: %lu before, %lu after", (unsigned long)branch_count(&before),
             (unsigned long)branch_count(&image));
     fputc('\n', stderr);
@@ -623,9 +726,9 @@ static void rows_in(char **sizes, uint32_t *rows) {
         rows[at] = number_in(sizes[at], table_rows[at], most[at]);
 }
 
-/* The same head, rows and pages, with zero rows and free places behind them; as many rows as before where none are asked
-   for. The library looks at the tables, before and after. */
-static struct image enlarged(const char *path, struct image *image, const uint32_t *asked) {
+/* The same head, rows and pages, with zero rows and free places behind them, and the live disk if it is to be kept; as
+   many rows as before where none are asked for. The library looks at the tables, before and after. */
+static struct image enlarged(const char *path, struct image *image, const uint32_t *asked, int with_disk) {
     uint32_t rows[3];
     for (int at = 0; at < 3; at++) {
         uint32_t were = number_at(image->bytes + 8 + 4 * at);
@@ -634,17 +737,24 @@ static struct image enlarged(const char *path, struct image *image, const uint32
             fail(1, "%s has %lu %s, and gets no fewer", path, (unsigned long)were, table_rows[at]);
     }
     struct done done = call(image, NULL, 0, NULL, 0);
-    if (done.stop == KIZMOOLET_RECORDS_UNSOUND)
-        fail(1, "stop 3: the tables are not sound, and stay as they are; %s", broken_rule(image, done.rows_read));
-    struct image larger = empty_image(rows[0], rows[1], rows[2]);
+    if (done.stop && (with_disk || done.stop != KIZMOOLET_DISK_UNFIT)) {
+        const char *what = done.stop == KIZMOOLET_DISK_UNFIT ? "the live disk does not fit, and stays as it is"
+                                                             : "the tables are not sound, and stay as they are";
+        const char *why = why_not(image, &done);
+        fail(1, "stop %lu: %s%s%s", (unsigned long)done.stop, what, why[0] ? "; " : "", why);
+    }
+    struct image larger = empty_image(rows[0], rows[1], rows[2], number_at(image->head + KIZMOOLET_HEAD_PAGES_AT));
     memcpy(larger.head, image->head, HEAD);
     memcpy(larger.branches, image->branches, image->branches_len);
     memcpy(larger.records, image->records, image->records_len);
     memcpy(larger.places, image->places, image->places_len);
     memcpy(larger.names, image->names, NAMES);
     memcpy(larger.slab, image->slab, image->slab_len);
-    if (!done.stop)
-        done = call(&larger, NULL, 0, NULL, 0);
+    if (with_disk) {
+        memcpy(larger.marks, image->marks, image->marks_len);
+        memcpy(larger.disk, image->disk, image->disk_len);
+    }
+    done = call(&larger, NULL, 0, NULL, 0);
     if (done.stop)
         fail(1, "stop %lu: the tables are not sound, and stay as they are", (unsigned long)done.stop);
     return larger;
@@ -656,13 +766,13 @@ static int grow(const char *path, char **sizes) {
     struct place place = find_place(path);
     struct stat found;
     int file = open_locked(&place, &found);
-    struct image image = load(&place, file, &found), larger = enlarged(path, &image, rows);
+    struct image image = load(&place, file, &found), larger = enlarged(path, &image, rows, 1);
     must_be_writable(&place, &found);
     replace(&place, &larger, &found);
     return 0;
 }
 
-/* The file TO has all but what lies in the slab behind the last page in use. */
+/* The file TO has all but the live disk and what lies in the slab behind the last page in use. */
 static int copy(const char *path, const char *to, char **sizes) {
     uint32_t rows[3];
     if (sizes)
@@ -671,11 +781,87 @@ static int copy(const char *path, const char *to, char **sizes) {
     struct stat found;
     int file = open_locked(&place, &found);
     struct stat like = of_caller(&new_place, to, found.st_mode & 0777);
-    struct image image = load(&place, file, &found), copied = enlarged(path, &image, sizes ? rows : NULL);
-    copied.in_file = length_in_use(&copied);
-    put_new(&new_place, &copied, &like);
-    fprintf(stderr, "copied: %zu bytes, the slab up to byte %zu of %zu\n", copied.in_file,
-        kizmoolet_slab_in_use(copied.places, copied.places_len), copied.slab_len);
+    struct image image = load(&place, file, &found), copied = enlarged(path, &image, sizes ? rows : NULL, 0);
+    copied.live_in_file = 0;
+    copied.slab_in_file = kizmoolet_slab_in_use(copied.places, copied.places_len);
+    struct content content = file_of(&copied);
+    put_new(&new_place, &content, &like);
+    fprintf(stderr, "copied: %zu bytes, the slab up to byte %zu of %zu, without the live disk\n", length_of(&content),
+        copied.slab_in_file, copied.slab_len);
+    return 0;
+}
+
+/* Says why the library does not take the store, if it does not: the exit status. */
+static int untaken(struct image *image) {
+    struct done done = call(image, NULL, 0, NULL, 0);
+    const char *why = why_not(image, &done);
+    if (done.stop)
+        fprintf(stderr, "stop %lu%s%s\n", (unsigned long)done.stop, why[0] ? ": " : "", why);
+    return done.stop ? 3 : 0;
+}
+
+/* The page of an address at now, and where it lies. Nothing is changed. */
+static int live(const char *path, const char *word) {
+    static const char *const areas[3] = {"none", "disk", "slab"};
+    uint32_t address = number_in(word, "the address", UINT32_MAX), area;
+    uint64_t offset;
+    struct place place = find_place(path);
+    struct stat found;
+    int file = open_locked(&place, &found);
+    struct image image = load(&place, file, &found);
+    uint32_t refusal = kizmoolet_live_read(STORE(&image), DISK(&image), address, &area, &offset);
+    if (refusal == KIZMOOLET_ADDRESS_TOO_HIGH) {
+        fprintf(stderr, "refusal 4: the volume has addresses 0 to %zu\n", image.marks_len - 1);
+        return 5;
+    }
+    if (refusal)
+        return untaken(&image);
+    const uint8_t *page = kizmoolet_live_page(area, offset, image.disk, image.slab);
+    if (page && write_all(1, page, PAGE) != 0)
+        fail(1, "the page could not be written: %s", strerror(errno));
+    fprintf(stderr, "area %s, offset %llu, mark %u\n", areas[area], (unsigned long long)offset, image.marks[address]);
+    return 0;
+}
+
+/* A copying step. The image is replaced where a page was brought to date. */
+static int step(const char *path, const char *word) {
+    uint32_t budget = number_in(word, "the number of pages", UINT32_MAX);
+    uint64_t copied;
+    struct place place = find_place(path);
+    struct stat found;
+    int file = open_locked(&place, &found);
+    struct image image = load(&place, file, &found);
+    if (kizmoolet_copy_step(STORE(&image), DISK(&image), budget, &copied) != KIZMOOLET_OK)
+        return untaken(&image);
+    if (copied) {
+        must_be_writable(&place, &found);
+        replace(&place, &image, &found);
+    }
+    fprintf(stderr, "%llu page%s brought to date, %zu stale\n", (unsigned long long)copied, several(copied),
+        kizmoolet_stale_pages(image.marks, image.marks_len));
+    return 0;
+}
+
+static size_t blank_pages(const struct image *image) {
+    size_t blank = 0;
+    for (size_t at = 0; at < image->marks_len; at++)
+        blank += image->marks[at] == (KIZMOOLET_MARK_CURRENT | KIZMOOLET_MARK_BLANK);
+    return blank;
+}
+
+/* The live disk as it is, stale and blank pages too, in the new file TO. */
+static int disk(const char *path, const char *to) {
+    struct place place = find_place(path), new_place = find_place(to);
+    struct stat found;
+    int file = open_locked(&place, &found);
+    struct stat like = of_caller(&new_place, to, found.st_mode & 0777);
+    struct image image = load(&place, file, &found);
+    if (untaken(&image))
+        return 3;
+    struct content content = {{{image.disk, image.disk_len}}};
+    put_new(&new_place, &content, &like);
+    fprintf(stderr, "%zu page%s, %zu stale, %zu blank\n", image.marks_len, several(image.marks_len),
+        kizmoolet_stale_pages(image.marks, image.marks_len), blank_pages(&image));
     return 0;
 }
 
@@ -683,7 +869,10 @@ static int usage(void) {
     fputs("usage: host new IMAGE SIZE BRANCHES RECORDS PLACES\n"
           "       host run [--stop-at-refusal | --all-or-nothing] [--copy NAME] IMAGE [ANSWER_BYTES] < batch > answers\n"
           "       host grow IMAGE BRANCHES RECORDS PLACES\n"
-          "       host copy IMAGE TO [BRANCHES RECORDS PLACES]\n",
+          "       host copy IMAGE TO [BRANCHES RECORDS PLACES]\n"
+          "       host live IMAGE ADDRESS > page\n"
+          "       host step IMAGE N\n"
+          "       host disk IMAGE OUT\n",
         stderr);
     return 2;
 }
@@ -699,6 +888,12 @@ int main(int count, char **words) {
         return grow(words[2], words + 3);
     if ((count == 4 || count == 7) && strcmp(words[1], "copy") == 0)
         return copy(words[2], words[3], count == 7 ? words + 4 : NULL);
+    if (count == 4 && strcmp(words[1], "live") == 0)
+        return live(words[2], words[3]);
+    if (count == 4 && strcmp(words[1], "step") == 0)
+        return step(words[2], words[3]);
+    if (count == 4 && strcmp(words[1], "disk") == 0)
+        return disk(words[2], words[3]);
     if (count < 3 || strcmp(words[1], "run") != 0)
         return usage();
     struct options options = {0, 0, NULL};

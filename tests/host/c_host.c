@@ -5,8 +5,9 @@
    pages      between two pages that may not be touched, against the one after it or the one before it
               in turn; the other side has bytes that nobody may change
    protected  as pages; and what a call must not write to may only be read while it runs: all areas where
-              1, 2 or 3 is due, the batch always, the slab of a fresh store always. A call that writes
-              there all the same counts as one that differs
+              1, 2, 3 or 18 is due, and of a live read always; the batch always; the slab of a fresh store
+              always, and live disk and marks, which it does not get; all but live disk and marks of a
+              copying step. A call that writes there all the same counts as one that differs
    exact      an allocation of just its length, for a run under a tool that watches allocations
 
    With `all` as the second argument every refusal and stop must come up; with `first` the first difference ends it. */
@@ -26,11 +27,21 @@
 #include <sys/mman.h>
 #include <unistd.h>
 
-enum { HEAD, BRANCHES, RECORDS, PLACES, NAMES, SLAB, BATCH, ANSWERS, AREAS };
+enum { HEAD, BRANCHES, RECORDS, PLACES, NAMES, SLAB, DISK, MARKS, BATCH, ANSWERS, AREAS };
 
 static const char *const area_names[AREAS] = {
-    "head", "branches", "records", "places", "names", "slab", "batch", "answers"
+    "head", "branches", "records", "places", "names", "slab", "disk", "marks", "batch", "answers"
 };
+
+/* An area as a call takes it; those of a store; live disk and marks. */
+#define LENT(i) areas[i].bytes, areas[i].length
+#define STORE LENT(HEAD), LENT(BRANCHES), LENT(RECORDS), LENT(PLACES), LENT(NAMES), LENT(SLAB)
+#define LIVE LENT(DISK), LENT(MARKS)
+
+/* The kinds of calls. */
+enum { FRESH, A_BATCH, LIVE_READ, STEP, KINDS };
+
+static const char *const kind_names[KINDS] = { "fresh stores", "batches", "live reads", "steps" };
 
 enum { MARGIN = 512 };
 
@@ -38,7 +49,7 @@ enum { MARGIN = 512 };
 enum { COUNTS = 4 };
 
 /* More than the largest number that is a refusal or a stop; and one after the largest. */
-enum { NUMBERS = 32, NUMBERS_END = KIZMOOLET_NO_SUCH_NAME + 1 };
+enum { NUMBERS = 32, NUMBERS_END = KIZMOOLET_DISK_UNFIT + 1 };
 
 /* More than the longest area of any case. */
 static const size_t most_bytes = (size_t)40 << 20;
@@ -52,14 +63,14 @@ struct area {
 
 struct counts {
     uint64_t calls, compared, differ, answered;
-    uint64_t stops[NUMBERS], refusals[NUMBERS];
-    uint64_t read_only[2][4]; /* calls that were refused with all areas protected: fresh stores, batches */
+    uint64_t results[KINDS][NUMBERS], refusals[NUMBERS];
+    uint64_t pages[3], copied;            /* pages of live reads: none, on the disk, in the slab; pages brought to date */
+    uint64_t read_only[KINDS][NUMBERS];   /* calls whose store was protected, by their results */
 };
 
 static struct area areas[AREAS];
 static struct counts counts;
-static uint64_t seen[NUMBERS];
-static uint64_t seen_read_only[2][4];
+static uint64_t seen[KINDS][NUMBERS], seen_read_only[KINDS][NUMBERS];
 static uint64_t all_differ;
 static bool call_told;
 static unsigned printed;
@@ -142,8 +153,8 @@ static void get_area(struct area *area)
     get(area->bytes, area->length);
 }
 
-/* A copy of the lent areas, laid onto bytes that are read: head and tables whole, but of the names the rows that are counted, and
-   of the slab what is in use. */
+/* A copy of the store, laid onto bytes that are read: head and tables whole, but of the names the rows that are counted, and
+   of the slab what is in use. The live disk is another, with every page stale. */
 static void copy_areas(void)
 {
     size_t in_use = kizmoolet_slab_in_use(areas[PLACES].bytes, areas[PLACES].length);
@@ -158,6 +169,9 @@ static void copy_areas(void)
         if (length != 0)
             memcpy(areas[i].bytes, expected, length);
     }
+    get_area(&areas[DISK]);
+    get_area(&areas[MARKS]);
+    kizmoolet_make_stale(areas[MARKS].bytes, areas[MARKS].length);
 }
 
 static void check_margins(void)
@@ -214,11 +228,40 @@ static void protect(const struct area *area, int how)
         fail("the areas cannot be protected");
 }
 
-static void protect_for(uint64_t due, bool fresh, int how)
+/* Is this a refusal before anything is written? */
+static bool refused(uint64_t result)
 {
-    for (int i = HEAD; protecting && i <= (fresh ? SLAB : ANSWERS); i++)
-        if ((due >= 1 && due <= 3) || i == BATCH || (fresh && i == SLAB))
+    return (result >= KIZMOOLET_OUT_OF_RANGE && result <= KIZMOOLET_RECORDS_UNSOUND) || result == KIZMOOLET_DISK_UNFIT;
+}
+
+/* May this kind of call, for which this is due, not write to the area? */
+static bool only_read(int area, int kind, uint64_t due)
+{
+    bool live = area == DISK || area == MARKS;
+    switch (kind) {
+    case FRESH:
+        return refused(due) || live || area == SLAB;
+    case A_BATCH:
+        return refused(due) || area == BATCH;
+    case STEP:
+        return refused(due) || !live;
+    default:
+        return true;
+    }
+}
+
+static void protect_for(int kind, uint64_t due, int how)
+{
+    for (int i = HEAD; protecting && i <= (kind == A_BATCH ? ANSWERS : MARKS); i++)
+        if (only_read(i, kind, due))
             protect(&areas[i], how);
+}
+
+/* The result of a call is the one that is due. */
+static void count_read_only(int kind, uint64_t result)
+{
+    if (protecting && (refused(result) || kind == LIVE_READ || kind == STEP))
+        counts.read_only[kind][result % NUMBERS]++;
 }
 
 static void tell_fault(void)
@@ -239,27 +282,21 @@ static void run_fresh(void)
     uint32_t result = (uint32_t)get_number();
     counts.calls++;
     call_told = false;
-    protect_for(result, true, PROT_READ);
+    protect_for(FRESH, result, PROT_READ);
     if (sigsetjmp(before_call, 1) == 0) {
         calling = 1;
-        uint32_t got = kizmoolet_fresh(size,
-            areas[HEAD].bytes, areas[HEAD].length,
-            areas[BRANCHES].bytes, areas[BRANCHES].length,
-            areas[RECORDS].bytes, areas[RECORDS].length,
-            areas[PLACES].bytes, areas[PLACES].length,
-            areas[NAMES].bytes, areas[NAMES].length,
-            areas[SLAB].bytes, areas[SLAB].length);
+        uint32_t got = kizmoolet_fresh(size, STORE);
         calling = 0;
-        counts.stops[got % NUMBERS]++;
+        counts.results[FRESH][got % NUMBERS]++;
         if (got != result)
             differs("the result of", "a fresh store");
-        else if (protecting && result <= 3)
-            counts.read_only[0][result]++;
+        else
+            count_read_only(FRESH, result);
     } else {
         calling = 0;
         tell_fault();
     }
-    protect_for(result, true, PROT_READ | PROT_WRITE);
+    protect_for(FRESH, result, PROT_READ | PROT_WRITE);
     check_margins();
 }
 
@@ -293,21 +330,12 @@ static void run_batch(void)
         memcpy(expected, areas[BATCH].bytes, areas[BATCH].length);
     counts.calls++;
     call_told = false;
-    protect_for(stop, false, PROT_READ);
+    protect_for(A_BATCH, stop, PROT_READ);
     if (sigsetjmp(before_call, 1) == 0) {
         calling = 1;
-        uint32_t got_stop = kizmoolet_batch(
-            areas[HEAD].bytes, areas[HEAD].length,
-            areas[BRANCHES].bytes, areas[BRANCHES].length,
-            areas[RECORDS].bytes, areas[RECORDS].length,
-            areas[PLACES].bytes, areas[PLACES].length,
-            areas[NAMES].bytes, areas[NAMES].length,
-            areas[SLAB].bytes, areas[SLAB].length,
-            areas[BATCH].bytes, areas[BATCH].length,
-            areas[ANSWERS].bytes, areas[ANSWERS].length,
-            &got[0], &got[1], &got[2], &got[3]);
+        uint32_t got_stop = kizmoolet_batch(STORE, LIVE, LENT(BATCH), LENT(ANSWERS), &got[0], &got[1], &got[2], &got[3]);
         calling = 0;
-        counts.stops[got_stop % NUMBERS]++;
+        counts.results[A_BATCH][got_stop % NUMBERS]++;
         if (got_stop != stop || memcmp(got, counted, sizeof got) != 0) {
             differs("what is reported of", "the batch");
             if (printed <= 20)
@@ -317,17 +345,104 @@ static void run_batch(void)
         } else {
             counts.answered += got[0];
             count_refusals(got[0], got[2]);
-            if (protecting && stop <= 3)
-                counts.read_only[1][stop]++;
+            count_read_only(A_BATCH, stop);
         }
     } else {
         calling = 0;
         tell_fault();
     }
-    protect_for(stop, false, PROT_READ | PROT_WRITE);
+    protect_for(A_BATCH, stop, PROT_READ | PROT_WRITE);
     if (areas[BATCH].length != 0 && memcmp(expected, areas[BATCH].bytes, areas[BATCH].length) != 0)
         differs("the area", "batch");
     compare_area(&areas[ANSWERS], area_names[ANSWERS]);
+    check_margins();
+}
+
+/* The page that a live read tells of is compared byte for byte, at the pointer that a host makes of it. */
+static void compare_page(uint32_t area, uint64_t offset, size_t length)
+{
+    const uint8_t *page = kizmoolet_live_page(area, offset, areas[DISK].bytes, areas[SLAB].bytes);
+    const uint8_t *due = length == 0 ? NULL : areas[area == 1 ? DISK : SLAB].bytes + offset;
+    if (page != due || (length != 0 && memcmp(page, expected, length) != 0))
+        differs("the page of", "the live read");
+}
+
+static void run_live_read(void)
+{
+    uint32_t address = (uint32_t)get_number(), result = (uint32_t)get_number(), area = (uint32_t)get_number();
+    uint64_t offset = get_number(), length = get_number();
+    static uint32_t got_area;
+    static uint64_t got_offset;
+    got_area = ~area; /* other numbers than are due: both must be written */
+    got_offset = ~offset;
+    if (length != 0 && length != KIZMOOLET_PAGE_BYTES)
+        fail("a page has another length");
+    get(expected, length);
+    counts.calls++;
+    call_told = false;
+    protect_for(LIVE_READ, result, PROT_READ);
+    if (sigsetjmp(before_call, 1) == 0) {
+        calling = 1;
+        uint32_t got = kizmoolet_live_read(STORE, LIVE, address, &got_area, &got_offset);
+        calling = 0;
+        counts.results[LIVE_READ][got % NUMBERS]++;
+        if (got != result || got_area != area || got_offset != offset) {
+            differs("what is told of", "the live read");
+            if (printed <= 20)
+                printf("  address %" PRIu32 ": result %" PRIu32 ", area %" PRIu32 ", offset %" PRIu64 ", should %" PRIu32
+                       ", %" PRIu32 ", %" PRIu64 "\n",
+                    address, got, got_area, got_offset, result, area, offset);
+        } else {
+            compare_page(area, offset, length);
+            count_read_only(LIVE_READ, result);
+            if (result == KIZMOOLET_OK)
+                counts.pages[area % 3]++;
+        }
+    } else {
+        calling = 0;
+        tell_fault();
+    }
+    protect_for(LIVE_READ, result, PROT_READ | PROT_WRITE);
+    check_margins();
+}
+
+/* A function of its own: nothing of it is alive where a call jumps back. */
+static __attribute__((noinline)) uint64_t stale_pages(void)
+{
+    return kizmoolet_stale_pages(areas[MARKS].bytes, areas[MARKS].length);
+}
+
+static void run_copy_step(void)
+{
+    uint32_t budget = (uint32_t)get_number(), result = (uint32_t)get_number();
+    uint64_t copied = get_number();
+    static uint64_t got_copied;
+    got_copied = ~copied; /* another number than is due: it must be written */
+    uint64_t stale = stale_pages();
+    counts.calls++;
+    call_told = false;
+    protect_for(STEP, result, PROT_READ);
+    if (sigsetjmp(before_call, 1) == 0) {
+        calling = 1;
+        uint32_t got = kizmoolet_copy_step(STORE, LIVE, budget, &got_copied);
+        calling = 0;
+        counts.results[STEP][got % NUMBERS]++;
+        if (got != result || got_copied != copied) {
+            differs("what is told of", "the step");
+            if (printed <= 20)
+                printf("  budget %" PRIu32 ": result %" PRIu32 ", copied %" PRIu64 ", should %" PRIu32 ", %" PRIu64 "\n",
+                    budget, got, got_copied, result, copied);
+        } else {
+            count_read_only(STEP, result);
+            counts.copied += copied;
+            if (stale_pages() != stale - copied)
+                differs("the stale pages that are left by", "the step");
+        }
+    } else {
+        calling = 0;
+        tell_fault();
+    }
+    protect_for(STEP, result, PROT_READ | PROT_WRITE);
     check_margins();
 }
 
@@ -345,6 +460,15 @@ static void print_numbers(const uint64_t *numbers, int from)
         printf("none");
 }
 
+/* Of each kind of calls its results. */
+static void print_kinds(uint64_t (*numbers)[NUMBERS])
+{
+    for (int kind = FRESH; kind < KINDS; kind++) {
+        printf("%s%s ", kind == FRESH ? "" : "; ", kind_names[kind]);
+        print_numbers(numbers[kind], 0);
+    }
+}
+
 static void end_family(void)
 {
     char name[64] = { 0 };
@@ -353,21 +477,24 @@ static void end_family(void)
         fail("the family's name is too long");
     get(name, length);
     printf("  %s: %" PRIu64 " calls, %" PRIu64 " requests answered, %" PRIu64
-           " times all areas compared, %" PRIu64 " calls differ\n    results and stops ",
+           " times all areas compared, %" PRIu64 " calls differ\n    results: ",
         name, counts.calls, counts.answered, counts.compared, counts.differ);
-    print_numbers(counts.stops, 0);
+    print_kinds(counts.results);
     printf("; refusals ");
     print_numbers(counts.refusals, 1);
-    printf("\n");
-    if (protecting)
-        printf("    on areas that may only be read: fresh stores 1: %" PRIu64 "; batches 1: %" PRIu64 ", 2: %" PRIu64
-               ", 3: %" PRIu64 "\n",
-            counts.read_only[0][1], counts.read_only[1][1], counts.read_only[1][2], counts.read_only[1][3]);
-    for (int i = 0; i < NUMBERS; i++)
-        seen[i] += counts.stops[i] + counts.refusals[i];
-    for (int i = 1; i <= 3; i++) {
-        seen_read_only[0][i] += counts.read_only[0][i];
-        seen_read_only[1][i] += counts.read_only[1][i];
+    printf("\n    pages of live reads: on the disk %" PRIu64 ", in the slab %" PRIu64 ", none %" PRIu64 "; copied %" PRIu64 "\n",
+        counts.pages[KIZMOOLET_AREA_DISK], counts.pages[KIZMOOLET_AREA_SLAB], counts.pages[KIZMOOLET_AREA_NONE], counts.copied);
+    if (protecting) {
+        printf("    on areas that may only be read: ");
+        print_kinds(counts.read_only);
+        printf("\n");
+    }
+    for (int i = 0; i < NUMBERS; i++) {
+        for (int kind = FRESH; kind < KINDS; kind++) {
+            seen[kind][i] += counts.results[kind][i];
+            seen_read_only[kind][i] += counts.read_only[kind][i];
+        }
+        seen[A_BATCH][i] += counts.refusals[i];
     }
     memset(&counts, 0, sizeof counts);
 }
@@ -380,6 +507,28 @@ static void get_note(void)
         fail("a line is too long");
     get(line, length);
     printf("    %s\n", line);
+}
+
+/* May a call of this kind have this result, or a request of it this refusal? */
+static bool may_be(int kind, int number)
+{
+    bool table_check = number == KIZMOOLET_OK || refused((uint64_t)number);
+    switch (kind) {
+    case FRESH:
+        return number == KIZMOOLET_OK || number == KIZMOOLET_OUT_OF_RANGE;
+    case A_BATCH:
+        return true;
+    case LIVE_READ:
+        return table_check || number == KIZMOOLET_ADDRESS_TOO_HIGH;
+    default:
+        return table_check;
+    }
+}
+
+/* And then on areas that may only be read? */
+static bool may_be_read_only(int kind, int number)
+{
+    return may_be(kind, number) && (refused((uint64_t)number) || kind == LIVE_READ || kind == STEP);
 }
 
 static void *work(void *result)
@@ -397,17 +546,23 @@ static void *work(void *result)
         uint8_t tag;
         get(&tag, 1);
         if (tag == 'L') {
-            for (int i = HEAD; i <= SLAB; i++)
+            for (int i = HEAD; i <= MARKS; i++)
                 get_area(&areas[i]);
         } else if (tag == 'Y') {
             copy_areas();
         } else if (tag == 'F') {
             run_fresh();
+        } else if (tag == 'M') {
+            kizmoolet_make_stale(areas[MARKS].bytes, areas[MARKS].length);
         } else if (tag == 'B') {
             run_batch();
+        } else if (tag == 'R') {
+            run_live_read();
+        } else if (tag == 'S') {
+            run_copy_step();
         } else if (tag == 'C') {
             counts.compared++;
-            for (int i = HEAD; i <= SLAB; i++)
+            for (int i = HEAD; i <= MARKS; i++)
                 compare_area(&areas[i], area_names[i]);
         } else if (tag == 'E') {
             end_family();
@@ -421,16 +576,13 @@ static void *work(void *result)
         }
     }
     *good = all_differ == 0;
-    for (int i = 1; i < NUMBERS_END; i++)
-        if (all_families && seen[i] == 0) {
-            printf("  never seen: %d\n", i);
-            *good = false;
-        }
-    for (int i = 1; protecting && i <= 3; i++)
-        if (seen_read_only[1][i] == 0 || (i == 1 && seen_read_only[0][i] == 0)) {
-            printf("  never seen on areas that may only be read: %d\n", i);
-            *good = false;
-        }
+    for (int kind = FRESH; kind < KINDS; kind++)
+        for (int i = 0; i < NUMBERS_END; i++)
+            if ((all_families && may_be(kind, i) && seen[kind][i] == 0)
+                || (protecting && may_be_read_only(kind, i) && seen_read_only[kind][i] == 0)) {
+                printf("  never seen of %s: %d\n", kind_names[kind], i);
+                *good = false;
+            }
     printf("  in all %" PRIu64 " calls differ\n", all_differ);
     return NULL;
 }

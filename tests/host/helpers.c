@@ -4,9 +4,10 @@
    1. Every request and answer that helpers/main.rs writes, packed and unpacked: the bytes are those of the reference; into an
       area that is too short nothing is packed, and answers that are cut short anywhere are not unpacked. For every place table
       that it writes, up to which byte the slab is in use; only whole rows are looked at. For every name table, which row has a
-      name, and its moment.
-   2. Each of the numbers 0 to 17, by its name, comes from the library where the header says, and so do a page's date, the rows
-      of names, and the record rows read. */
+      name, and its moment. For the marks of every live disk, how many pages are stale, and the marks once all are.
+   2. The pointer to the page of a live read.
+   3. Each of the numbers 0 to 18, by its name, comes from the library where the header says, and so do a page's date, the rows
+      of names, the record rows read, live reads and copying steps. */
 
 #include "kizmoolet.h"
 #include "kizmoolet_requests.h"
@@ -242,6 +243,26 @@ static void one_name_table(void)
     free(name_part);
 }
 
+/* Stale pages counted, and made stale. The marks are an allocation of their own, none where there is no mark, so that the
+   sanitizers see what is read or written past them. */
+static void one_table_of_marks(void)
+{
+    static uint8_t before[KIZMOOLET_MOST_PAGES], after[KIZMOOLET_MOST_PAGES];
+    size_t length = get_area(before, sizeof before), stale = (size_t)get_number();
+    size_t same = get_area(after, sizeof after);
+    uint8_t *marks = length != 0 ? (uint8_t *)malloc(length) : NULL;
+    if (same != length || (length != 0 && marks == NULL))
+        fail("no memory, or marks of another number");
+    if (length != 0)
+        memcpy(marks, before, length);
+    CHECK(kizmoolet_stale_pages(marks, length) == stale);
+    CHECK(length == 0 || memcmp(marks, before, length) == 0);
+    kizmoolet_make_stale(marks, length);
+    CHECK(length == 0 || memcmp(marks, after, length) == 0);
+    CHECK(kizmoolet_stale_pages(marks, length) == length);
+    free(marks);
+}
+
 static void reference_sizes(void)
 {
     CHECK(get_number() == KIZMOOLET_PAGE_BYTES);
@@ -262,11 +283,16 @@ static void reference_sizes(void)
     CHECK(get_number() == KIZMOOLET_ANSWER_BYTES);
     CHECK(get_number() == KIZMOOLET_DATE_BYTES);
     CHECK(get_number() == KIZMOOLET_PAGE_ANSWER_BYTES);
+    CHECK(get_number() == KIZMOOLET_MARK_CURRENT);
+    CHECK(get_number() == KIZMOOLET_MARK_BLANK);
+    CHECK(get_number() == KIZMOOLET_AREA_NONE);
+    CHECK(get_number() == KIZMOOLET_AREA_DISK);
+    CHECK(get_number() == KIZMOOLET_AREA_SLAB);
 }
 
 static void against_reference(void)
 {
-    unsigned long requests = 0, answers = 0, place_tables = 0, name_tables = 0;
+    unsigned long requests = 0, answers = 0, place_tables = 0, name_tables = 0, live_disks = 0;
     struct kizmoolet_answers from;
     struct kizmoolet_answer answer;
     all_packed = kizmoolet_requests_in(packed_requests, sizeof packed_requests);
@@ -287,6 +313,9 @@ static void against_reference(void)
         } else if (tag == 'N') {
             one_name_table();
             name_tables++;
+        } else if (tag == 'M') {
+            one_table_of_marks();
+            live_disks++;
         } else if (tag == 'Z') {
             break;
         } else {
@@ -299,16 +328,40 @@ static void against_reference(void)
     while (kizmoolet_next_answer(&from, &answer) == 1)
         answers_seen--;
     CHECK(answers_seen == 0 && from.at == all_answers_len);
-    CHECK(requests > 14000 && answers > 4000 && place_tables > 20000 && name_tables > 20000);
-    printf("  %lu requests, %lu answers, %lu place tables, %lu name tables\n", requests, answers, place_tables, name_tables);
+    CHECK(requests > 14000 && answers > 4000 && place_tables > 20000 && name_tables > 20000 && live_disks > 8000);
+    printf("  %lu requests, %lu answers, %lu place tables, %lu name tables, marks of %lu live disks\n", requests, answers,
+        place_tables, name_tables, live_disks);
 }
 
-/* ---- 2. each number by its name */
+/* ---- 2. the pointer to the page of a live read */
+
+/* The largest disk and the largest slab are of one length; the pointers are made, and nothing is read there. */
+static void live_pages(void)
+{
+    size_t length = (size_t)KIZMOOLET_PAGE_BYTES * KIZMOOLET_MOST_PAGES, offset;
+    uint8_t *on_disk = (uint8_t *)malloc(length), *in_slab = (uint8_t *)malloc(length);
+    uint32_t area;
+    if (on_disk == NULL || in_slab == NULL)
+        fail("no memory");
+    for (offset = 0; offset < length; offset += KIZMOOLET_PAGE_BYTES * 5) {
+        CHECK(kizmoolet_live_page(KIZMOOLET_AREA_DISK, offset, on_disk, in_slab) == on_disk + offset);
+        CHECK(kizmoolet_live_page(KIZMOOLET_AREA_SLAB, offset, on_disk, in_slab) == in_slab + offset);
+        CHECK(kizmoolet_live_page(KIZMOOLET_AREA_NONE, offset, on_disk, in_slab) == NULL);
+    }
+    for (area = 3; area < 9; area++)
+        CHECK(kizmoolet_live_page(area, 0, on_disk, in_slab) == NULL);
+    CHECK(kizmoolet_live_page(UINT32_MAX, 0, on_disk, in_slab) == NULL);
+    free(on_disk);
+    free(in_slab);
+}
+
+/* ---- 3. each number by its name */
 
 /* A store of the smallest tables, and some more. */
 static uint8_t head[KIZMOOLET_HEAD_BYTES], branches[KIZMOOLET_BRANCH_BYTES * 2], records[KIZMOOLET_RECORD_BYTES * 2];
 static uint8_t places[KIZMOOLET_PLACE_BYTES * 3], names[KIZMOOLET_NAMES_BYTES], slab[KIZMOOLET_PAGE_BYTES * 3];
-static size_t branch_rows, record_rows, place_rows;
+static uint8_t disk[KIZMOOLET_PAGE_BYTES * 7], marks[7]; /* room for one page more than the six that a store has */
+static size_t branch_rows, record_rows, place_rows, disk_len, marks_len;
 static uint8_t batch[ROOM], answers_area[ROOM];
 static struct kizmoolet_requests list;
 static struct kizmoolet_answers answers;
@@ -333,6 +386,9 @@ static void fresh(size_t branch_count, size_t record_count, size_t place_count)
               KIZMOOLET_PAGE_BYTES * place_rows)
         == KIZMOOLET_OK);
     list = kizmoolet_requests_in(batch, sizeof batch);
+    disk_len = KIZMOOLET_PAGE_BYTES * 6;
+    marks_len = 6;
+    kizmoolet_make_stale(marks, sizeof marks);
 }
 
 /* Sends the list, and begins a new one. */
@@ -343,8 +399,8 @@ static uint32_t send_to(size_t room)
     answered = request_bytes = answer_bytes = rows_read = UINT64_MAX; /* each is written */
     stop = kizmoolet_batch(head, sizeof head, branches, KIZMOOLET_BRANCH_BYTES * branch_rows, records,
         KIZMOOLET_RECORD_BYTES * record_rows, places, KIZMOOLET_PLACE_BYTES * place_rows, names, sizeof names, slab,
-        KIZMOOLET_PAGE_BYTES * place_rows, batch, list.length, answers_area, room, &answered, &request_bytes, &answer_bytes,
-        &rows_read);
+        KIZMOOLET_PAGE_BYTES * place_rows, disk, disk_len, marks, marks_len, batch, list.length, answers_area, room, &answered,
+        &request_bytes, &answer_bytes, &rows_read);
     CHECK(answered <= list.length && request_bytes <= list.length && answer_bytes <= room && rows_read <= record_rows);
     list = kizmoolet_requests_in(batch, sizeof batch);
     answers = kizmoolet_answers_in(answers_area, (size_t)answer_bytes);
@@ -473,6 +529,83 @@ static void rows(void)
     CHECK(send_list() == KIZMOOLET_OUT_OF_RANGE && rows_read == 0);
 }
 
+/* What a live read or a copying step tells, each number other before the call. */
+static uint32_t area;
+static uint64_t offset, copied;
+
+static uint32_t live_read(uint32_t address)
+{
+    area = UINT32_MAX;
+    offset = UINT64_MAX;
+    return kizmoolet_live_read(head, sizeof head, branches, KIZMOOLET_BRANCH_BYTES * branch_rows, records,
+        KIZMOOLET_RECORD_BYTES * record_rows, places, KIZMOOLET_PLACE_BYTES * place_rows, names, sizeof names, slab,
+        KIZMOOLET_PAGE_BYTES * place_rows, disk, disk_len, marks, marks_len, address, &area, &offset);
+}
+
+static uint32_t copy_step(uint32_t budget)
+{
+    copied = UINT64_MAX;
+    return kizmoolet_copy_step(head, sizeof head, branches, KIZMOOLET_BRANCH_BYTES * branch_rows, records,
+        KIZMOOLET_RECORD_BYTES * record_rows, places, KIZMOOLET_PLACE_BYTES * place_rows, names, sizeof names, slab,
+        KIZMOOLET_PAGE_BYTES * place_rows, disk, disk_len, marks, marks_len, budget, &copied);
+}
+
+/* The page of a live read of this address lies here; there is none where the pointer is null. */
+static int lies_at(uint32_t address, const uint8_t *page)
+{
+    return live_read(address) == KIZMOOLET_OK && kizmoolet_live_page(area, offset, disk, slab) == page
+        && (page != NULL || (area == KIZMOOLET_AREA_NONE && offset == 0));
+}
+
+/* Every call is refused with this number and tells nothing. */
+static int all_refused(uint32_t number, uint64_t rows)
+{
+    kizmoolet_add_mark(&list);
+    return send_list() == number && answered == 0 && request_bytes == 0 && answer_bytes == 0 && rows_read == rows
+        && live_read(6) == number && area == KIZMOOLET_AREA_NONE && offset == 0 && copy_step(6) == number && copied == 0;
+}
+
+/* A page written, set back, copied; blank pages; refusals 4 and 18, which comes after 3. */
+static void live(void)
+{
+    const uint8_t current = KIZMOOLET_MARK_CURRENT, blank = KIZMOOLET_MARK_BLANK;
+    fresh(2, 2, 3);
+    CHECK(kizmoolet_stale_pages(marks, marks_len) == 6 && lies_at(5, NULL));
+    kizmoolet_add_write(&list, 5, letters);
+    CHECK(send_list() == KIZMOOLET_OK && marks[5] == current && lies_at(5, disk + 5 * KIZMOOLET_PAGE_BYTES));
+    CHECK(memcmp(disk + 5 * KIZMOOLET_PAGE_BYTES, letters, sizeof letters) == 0);
+    CHECK(copy_step(2) == KIZMOOLET_OK && copied == 2 && marks[0] == (current | blank) && marks[1] == (current | blank));
+    CHECK(kizmoolet_stale_pages(marks, marks_len) == 3 && lies_at(0, NULL) && lies_at(2, NULL));
+    kizmoolet_add_mark(&list);
+    kizmoolet_add_revert(&list, 0);
+    CHECK(send_list() == KIZMOOLET_OK && kizmoolet_stale_pages(marks, marks_len) == 6 && marks[0] == blank && marks[5] == 0);
+    CHECK(lies_at(5, slab) && area == KIZMOOLET_AREA_SLAB && lies_at(0, NULL));
+    CHECK(copy_step(0) == KIZMOOLET_OK && copied == 0);
+    CHECK(copy_step(UINT32_MAX) == KIZMOOLET_OK && copied == 6 && kizmoolet_stale_pages(marks, marks_len) == 0);
+    CHECK(lies_at(5, disk + 5 * KIZMOOLET_PAGE_BYTES) && area == KIZMOOLET_AREA_DISK && marks[5] == current);
+    CHECK(live_read(6) == KIZMOOLET_ADDRESS_TOO_HIGH && area == KIZMOOLET_AREA_NONE && offset == 0);
+    CHECK(live_read(65536 + 5) == KIZMOOLET_ADDRESS_TOO_HIGH && area == KIZMOOLET_AREA_NONE && offset == 0);
+
+    disk_len = KIZMOOLET_PAGE_BYTES * 7;
+    CHECK(all_refused(KIZMOOLET_DISK_UNFIT, 1));
+    disk_len = KIZMOOLET_PAGE_BYTES * 6 - 1;
+    CHECK(all_refused(KIZMOOLET_DISK_UNFIT, 1));
+    disk_len = KIZMOOLET_PAGE_BYTES * 6;
+    marks_len = 7;
+    CHECK(all_refused(KIZMOOLET_DISK_UNFIT, 1));
+    marks_len = 5;
+    CHECK(all_refused(KIZMOOLET_DISK_UNFIT, 1));
+    marks_len = 6;
+    marks[5] = 4;
+    CHECK(all_refused(KIZMOOLET_DISK_UNFIT, 1));
+    put_number(places + KIZMOOLET_PLACE_BYTES, 1);
+    CHECK(all_refused(KIZMOOLET_RECORDS_UNSOUND, 1));
+    put_number(branches + 8, 1);
+    CHECK(all_refused(KIZMOOLET_BRANCHES_UNSOUND, 0));
+    put_number(head + KIZMOOLET_HEAD_PAGES_AT, 0);
+    CHECK(all_refused(KIZMOOLET_OUT_OF_RANGE, 0));
+}
+
 static void by_name(void)
 {
     struct kizmoolet_answer answer;
@@ -575,9 +708,11 @@ int main(void)
     CHECK(KIZMOOLET_NAMED_BYTES == KIZMOOLET_REQUEST_BYTES + KIZMOOLET_NAME_BYTES);
     CHECK(KIZMOOLET_NAMES_BYTES == KIZMOOLET_MOST_NAMES * KIZMOOLET_NAME_ROW_BYTES);
     against_reference();
+    live_pages();
     by_name();
     named();
     rows();
+    live();
     printf("  %lu checks, %lu wrong\n", checks, wrong);
     return wrong == 0 ? 0 : 1;
 }

@@ -16,8 +16,9 @@ enum { STACK = 4 << 20, PATTERN = 0xA7, BATCH_ROOM = 1 << 16 };
 /* A store with the rows lent, and the call that is made on it. */
 struct store {
     uint8_t head[KIZMOOLET_HEAD_BYTES], names[KIZMOOLET_NAMES_BYTES];
-    uint8_t *branches, *records, *places, *slab;
-    size_t branches_len, records_len, places_len, slab_len;
+    uint8_t *branches, *records, *places, *slab, *disk, *marks;
+    size_t branches_len, records_len, places_len, slab_len, disk_len, marks_len;
+    uint32_t pages;
 };
 
 static struct store store;
@@ -40,25 +41,34 @@ static void *room(size_t length)
     return area;
 }
 
-static void make(uint32_t branches, uint32_t records, uint32_t places)
+static void make(uint32_t pages, uint32_t branches, uint32_t records, uint32_t places)
 {
     free(store.branches);
     free(store.records);
     free(store.places);
     free(store.slab);
+    free(store.disk);
+    free(store.marks);
+    store.pages = pages;
     store.branches = room(store.branches_len = (size_t)KIZMOOLET_BRANCH_BYTES * branches);
     store.records = room(store.records_len = (size_t)KIZMOOLET_RECORD_BYTES * records);
     store.places = room(store.places_len = (size_t)KIZMOOLET_PLACE_BYTES * places);
     store.slab = room(store.slab_len = (size_t)KIZMOOLET_PAGE_BYTES * places);
+    store.disk = room(store.disk_len = (size_t)KIZMOOLET_PAGE_BYTES * pages);
+    store.marks = room(store.marks_len = pages);
 }
+
+/* The six areas of the store, and live disk and marks, as a call takes them. */
+#define STORE \
+    store.head, sizeof store.head, store.branches, store.branches_len, store.records, store.records_len, store.places, \
+        store.places_len, store.names, sizeof store.names, store.slab, store.slab_len
+#define LIVE store.disk, store.disk_len, store.marks, store.marks_len
 
 /* The lowest address of the frame that calls, which the frame of the call lies below. */
 static __attribute__((noinline)) void *call_fresh(void *unused)
 {
     called_from = __builtin_frame_address(0);
-    result = kizmoolet_fresh(KIZMOOLET_MOST_PAGES, store.head, sizeof store.head, store.branches, store.branches_len,
-        store.records, store.records_len, store.places, store.places_len, store.names, sizeof store.names, store.slab,
-        store.slab_len);
+    result = kizmoolet_fresh(store.pages, STORE);
     return unused;
 }
 
@@ -66,9 +76,27 @@ static __attribute__((noinline)) void *call_batch(void *unused)
 {
     uint64_t answered, request_bytes, answer_bytes, rows_read;
     called_from = __builtin_frame_address(0);
-    result = kizmoolet_batch(store.head, sizeof store.head, store.branches, store.branches_len, store.records,
-        store.records_len, store.places, store.places_len, store.names, sizeof store.names, store.slab, store.slab_len, batch,
-        batch_len, answers, sizeof answers, &answered, &request_bytes, &answer_bytes, &rows_read);
+    result = kizmoolet_batch(
+        STORE, LIVE, batch, batch_len, answers, sizeof answers, &answered, &request_bytes, &answer_bytes, &rows_read);
+    return unused;
+}
+
+static uint32_t address, budget;
+
+static __attribute__((noinline)) void *call_live_read(void *unused)
+{
+    uint32_t area;
+    uint64_t offset;
+    called_from = __builtin_frame_address(0);
+    result = kizmoolet_live_read(STORE, LIVE, address, &area, &offset);
+    return unused;
+}
+
+static __attribute__((noinline)) void *call_copy_step(void *unused)
+{
+    uint64_t copied;
+    called_from = __builtin_frame_address(0);
+    result = kizmoolet_copy_step(STORE, LIVE, budget, &copied);
     return unused;
 }
 
@@ -127,23 +155,51 @@ static void all_requests(void)
     batch_len = to.length;
 }
 
+/* Live reads and copying steps: of pages that are stale, with pages and without; refused; of pages that are current. */
+static void tell_live(void)
+{
+    address = 5;
+    tell("kizmoolet_live_read, largest tables, a stale page", call_live_read, KIZMOOLET_OK);
+    address = KIZMOOLET_MOST_PAGES;
+    tell("kizmoolet_live_read, largest tables, refused with 4", call_live_read, KIZMOOLET_ADDRESS_TOO_HIGH);
+    budget = 1;
+    tell("kizmoolet_copy_step, largest tables, one page", call_copy_step, KIZMOOLET_OK);
+    budget = UINT32_MAX;
+    tell("kizmoolet_copy_step, largest tables, all pages", call_copy_step, KIZMOOLET_OK);
+    address = 5;
+    tell("kizmoolet_live_read, largest tables, a current page", call_live_read, KIZMOOLET_OK);
+    store.marks_len--;
+    tell("kizmoolet_batch, largest tables, refused with 18", call_batch, KIZMOOLET_DISK_UNFIT);
+    tell("kizmoolet_live_read, largest tables, refused with 18", call_live_read, KIZMOOLET_DISK_UNFIT);
+    tell("kizmoolet_copy_step, largest tables, refused with 18", call_copy_step, KIZMOOLET_DISK_UNFIT);
+    store.marks_len++;
+}
+
 int main(void)
 {
-    make(KIZMOOLET_MOST_BRANCHES, KIZMOOLET_MOST_RECORDS, KIZMOOLET_MOST_PLACES);
+    make(KIZMOOLET_MOST_PAGES, KIZMOOLET_MOST_BRANCHES, KIZMOOLET_MOST_RECORDS, KIZMOOLET_MOST_PLACES);
     tell("kizmoolet_fresh, largest tables", call_fresh, KIZMOOLET_OK);
     batch_len = 0;
     tell("kizmoolet_batch, largest tables, empty batch", call_batch, KIZMOOLET_OK);
     all_requests();
     tell("kizmoolet_batch, largest tables, all seven requests", call_batch, KIZMOOLET_OK);
+    tell_live();
     store.places[0] ^= 1;
     tell("kizmoolet_batch, largest tables, refused with 3", call_batch, KIZMOOLET_RECORDS_UNSOUND);
-    make(1, 1, 1);
+    tell("kizmoolet_live_read, largest tables, refused with 3", call_live_read, KIZMOOLET_RECORDS_UNSOUND);
+    tell("kizmoolet_copy_step, largest tables, refused with 3", call_copy_step, KIZMOOLET_RECORDS_UNSOUND);
+    make(1, 1, 1, 1);
     tell("kizmoolet_fresh, tables of one row", call_fresh, KIZMOOLET_OK);
     batch_len = 0;
     tell("kizmoolet_batch, tables of one row, empty batch", call_batch, KIZMOOLET_OK);
+    address = 0;
+    tell("kizmoolet_live_read, tables of one row", call_live_read, KIZMOOLET_OK);
+    tell("kizmoolet_copy_step, tables of one row", call_copy_step, KIZMOOLET_OK);
     store.places_len = 3;
     tell("kizmoolet_fresh, refused with 1 for a length", call_fresh, KIZMOOLET_OUT_OF_RANGE);
     tell("kizmoolet_batch, refused with 1 for a length", call_batch, KIZMOOLET_OUT_OF_RANGE);
+    tell("kizmoolet_live_read, refused with 1 for a length", call_live_read, KIZMOOLET_OUT_OF_RANGE);
+    tell("kizmoolet_copy_step, refused with 1 for a length", call_copy_step, KIZMOOLET_OUT_OF_RANGE);
     printf("  KIZMOOLET_STACK_BYTES %53u bytes\n", KIZMOOLET_STACK_BYTES);
     return most <= KIZMOOLET_STACK_BYTES && most > KIZMOOLET_STACK_BYTES / 2 ? 0 : 1;
 }

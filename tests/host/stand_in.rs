@@ -22,7 +22,10 @@ unsafe fn give_back(part: Part, bytes: &[u8]) {
     }
 }
 
-unsafe fn taken(parts: &[Part; 6]) -> Areas {
+/// Head, branches, records, places, names, slab, live disk and marks.
+type Parts = [Part; 8];
+
+unsafe fn taken(parts: &Parts) -> Areas {
     Areas {
         head: copied(parts[0]),
         branches: copied(parts[1]),
@@ -30,16 +33,20 @@ unsafe fn taken(parts: &[Part; 6]) -> Areas {
         places: copied(parts[3]),
         names: copied(parts[4]),
         slab: copied(parts[5]),
+        disk: copied(parts[6]),
+        marks: copied(parts[7]),
     }
 }
 
-unsafe fn returned(parts: &[Part; 6], areas: &Areas) {
+unsafe fn returned(parts: &Parts, areas: &Areas) {
     give_back(parts[0], &areas.head);
     give_back(parts[1], &areas.branches);
     give_back(parts[2], &areas.records);
     give_back(parts[3], &areas.places);
     give_back(parts[4], &areas.names);
     give_back(parts[5], &areas.slab);
+    give_back(parts[6], &areas.disk);
+    give_back(parts[7], &areas.marks);
 }
 
 /// # Safety
@@ -67,6 +74,9 @@ pub unsafe extern "C" fn kizmoolet_fresh(
         (places, places_len),
         (names, names_len),
         (slab.cast_mut(), slab_len),
+        // Live disk and marks are not passed.
+        (std::ptr::null_mut(), 0),
+        (std::ptr::null_mut(), 0),
     ];
     let mut areas = taken(&parts);
     let result = reference::fresh(size, &mut areas);
@@ -90,6 +100,10 @@ pub unsafe extern "C" fn kizmoolet_batch(
     names_len: usize,
     slab: *mut u8,
     slab_len: usize,
+    disk: *mut u8,
+    disk_len: usize,
+    marks: *mut u8,
+    marks_len: usize,
     batch: *const u8,
     batch_len: usize,
     answers: *mut u8,
@@ -106,6 +120,8 @@ pub unsafe extern "C" fn kizmoolet_batch(
         (places, places_len),
         (names, names_len),
         (slab, slab_len),
+        (disk, disk_len),
+        (marks, marks_len),
     ];
     let mut areas = taken(&parts);
     let requests = copied((batch.cast_mut(), batch_len));
@@ -118,4 +134,86 @@ pub unsafe extern "C" fn kizmoolet_batch(
     *answer_bytes = report.answer_bytes;
     *rows_read = report.rows_read;
     report.stop
+}
+
+/// # Safety
+/// Each pointer is to as many bytes as the length after it says; area and offset may be written.
+#[no_mangle]
+pub unsafe extern "C" fn kizmoolet_live_read(
+    head: *const u8,
+    head_len: usize,
+    branches: *const u8,
+    branches_len: usize,
+    records: *const u8,
+    records_len: usize,
+    places: *const u8,
+    places_len: usize,
+    names: *const u8,
+    names_len: usize,
+    slab: *const u8,
+    slab_len: usize,
+    disk: *const u8,
+    disk_len: usize,
+    marks: *const u8,
+    marks_len: usize,
+    address: u32,
+    area: *mut u32,
+    offset: *mut u64,
+) -> u32 {
+    let parts = [
+        (head.cast_mut(), head_len),
+        (branches.cast_mut(), branches_len),
+        (records.cast_mut(), records_len),
+        (places.cast_mut(), places_len),
+        (names.cast_mut(), names_len),
+        (slab.cast_mut(), slab_len),
+        (disk.cast_mut(), disk_len),
+        (marks.cast_mut(), marks_len),
+    ];
+    let mut areas = taken(&parts);
+    let told = reference::live_read(&mut areas, address);
+    returned(&parts, &areas);
+    *area = told.area;
+    *offset = told.offset;
+    told.refusal
+}
+
+/// # Safety
+/// Each pointer is to as many bytes as the length after it says; the count may be written.
+#[no_mangle]
+pub unsafe extern "C" fn kizmoolet_copy_step(
+    head: *const u8,
+    head_len: usize,
+    branches: *const u8,
+    branches_len: usize,
+    records: *const u8,
+    records_len: usize,
+    places: *const u8,
+    places_len: usize,
+    names: *const u8,
+    names_len: usize,
+    slab: *const u8,
+    slab_len: usize,
+    disk: *mut u8,
+    disk_len: usize,
+    marks: *mut u8,
+    marks_len: usize,
+    budget: u32,
+    copied_pages: *mut u64,
+) -> u32 {
+    let parts = [
+        (head.cast_mut(), head_len),
+        (branches.cast_mut(), branches_len),
+        (records.cast_mut(), records_len),
+        (places.cast_mut(), places_len),
+        (names.cast_mut(), names_len),
+        (slab.cast_mut(), slab_len),
+        (disk, disk_len),
+        (marks, marks_len),
+    ];
+    let mut areas = taken(&parts);
+    let told = reference::copy_step(&mut areas, budget);
+    returned(&parts, &areas);
+    *copied_pages = told.copied;
+    told.refusal
 }

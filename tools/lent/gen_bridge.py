@@ -21,13 +21,13 @@ class P:
     def own(self, z=None): return "‵ (%s .own %s (%s ∷ []))" % (self.ty(), self.ref(None, z), self.val)
 
 # the parameters in their order, and what each callee is handed of them behind the head and the rows
-PS = [P("size", None, False)] + [P(t, "u32", True) for t in TABLES] + [P("slab", "u8", True), P("input", "u8", False), P("answers", "u8", True)]
+PS = [P("size", None, False)] + [P(t, "u32", True) for t in TABLES] + [P("slab", "u8", True), P("disk", "u8", True), P("marks", "u8", True), P("input", "u8", False), P("answers", "u8", True)]
 life = 0
 for i, p in enumerate(PS):
     p.place(i, life if p.elem else None)
     if p.elem: life += 1
 BY = {p.name: p for p in PS}
-SIZE, SLAB, INPUT, ANSWERS = BY["size"], BY["slab"], BY["input"], BY["answers"]
+SIZE, SLAB, DISK, MARKS, ANSWERS = BY["size"], BY["slab"], BY["disk"], BY["marks"], BY["answers"]
 NUMBERS = [BY[t] for t in TABLES]
 LIFES = [p for p in PS if p.elem]
 MUTS = [p for p in LIFES if p.mut]
@@ -47,7 +47,7 @@ tok = star("‵ (flft %s %s)" % (p.kappa, p.q) for p in LIFES)
 ctx = ["(%s)" % tok] + [("‵ (finally %s γ%s %s)" % (p.elem, S(p.i), p.z)) if p.mut else p.own() for p in LIFES]
 x = Walk(["tok"] + ["fin-" + p.name for p in LIFES], "      ")
 x.emit("qed W (%s) ∵" % cons(ctx))
-x.emit("suffices ! _ (ends-at 𝓤 H A f.ended stayed (f.clauses 𝓤 H A at-mem run) W ((%s, %s, tt, a, at), tt) (O′.lowered (out h′ r)) (out h′ r) %s %s) $ says-both ! said read $ frame ! $" % (kappas, queues, nest(p.z if p.mut else "tt" for p in PS), nest(p.same if p.mut else "tt" for p in PS)))
+x.emit("suffices ! _ (ends-at 𝓤 H A f.ended stayed (f.clauses 𝓤 H A at-mem run) W ((%s, %s, tt, a, at), tt) (O′.lowered (out h′ r)) (out h′ r) %s %s) $ says-three ! said follows read $ frame ! $" % (kappas, queues, nest(p.z if p.mut else "tt" for p in PS), nest(p.same if p.mut else "tt" for p in PS)))
 x.become(1)
 x.nothing("acc")
 for p in reversed(LIFES): x.step("fjoin !", ["fin-" + p.name, "acc"], "acc")
@@ -78,7 +78,7 @@ HEAD = fill(open('tools/lent/bridge_header.txt').read(), dict(
     VARS="(size : ℕ) " + names(LIFES, lambda p: "(b%s o%s : ℕ) (γ%s : GName) (%s : List ℕ)" % (S(p.i), S(p.i), S(p.i), p.name)),
     ROOMS="(fits%s : size < 2 ^ 32) " % S(SIZE.i) + names(LIFES, lambda p: "(room%s : Room %s (length %s))" % (S(p.i), p.elem, p.name)),
     REFS=refs, ARGTY=times(["ℕ"] + ["RefT (List ℕ)"] * len(LIFES)), A=nest(p.arg() for p in PS), AT=nest(p.val + " ∷ []" for p in PS), KAPPAS=kappas, QUEUES=queues, CTX=cons(ctx), EXITS=EXITS,
-    LENT=LENT, ZTYS=lists(MUTS), ZNAMES=names(MUTS, lambda p: p.z), ZSTORE=names(NUMBERS + [SLAB], lambda p: p.z), ZANSWERS=ANSWERS.z,
+    LENT=LENT, ZTYS=lists(MUTS), ZNAMES=names(MUTS, lambda p: p.z), ZSTORE=names(NUMBERS + [SLAB], lambda p: p.z), ZANSWERS=ANSWERS.z, ZDISK="%s %s" % (DISK.z, MARKS.z), RANDISK="%s %s" % (after(DISK), after(MARKS)),
     SAMES=" → ".join("length %s ≡ length %s" % (p.z, p.name) for p in MUTS), SAMEN=names(MUTS, lambda p: p.same),
     MADETYS=lists(NUMBERS), MADE=names(NUMBERS, made), RANTYS=lists(MUTS), RAN=names(MUTS, after), RANSTORE=names(NUMBERS + [SLAB], after), RANANSWERS=after(ANSWERS),
     NUS=nus, DELTAS=deltas, NUTYS=" → ".join(["ℕ"] * NM), DELTATYS=" → ".join(["GName"] * NM),
@@ -231,10 +231,12 @@ H2, B2 = "(ys .0)", "(ys %s)" % PROJ(1)
 Z2 = {p: "(ys %s)" % PROJ(k) for k, p in enumerate(LIFES, 2)}
 z2s = names(MUTS, lambda p: Z2[p])
 fact = "Ran %s %s %s r %s %s %s" % (H1, B1, z1s, H2, B2, z2s)
+follows = "Follows %s %s %s %s %s" % (H1, B1, z1s, Z2[DISK], Z2[MARKS])
 read = "Read %s %s %s r" % (H1, B1, z1s)
-w.step("use1 W (some (λ (ys : %s). ‵ (lasts rn.ended %s ys) ⊛ raw (fact 𝓤 (%s)) ⊛ raw (fact 𝓤 (%s)))) (id⊢ 𝓤 _)" % (times(["Head", "List Branch"] + ["List ℕ" if p.mut else "Unit {0}" for p in LIFES]), ARGS, fact, read), ["ens"], "ens")
-w.binder("pick ! (λ ys."); w.split("ens", "las", "fct"); w.split("fct", "fct", "fct-read"); w.move("fct-read"); w.binder("heard ! (%s) (λ read." % read); w.become(1)
-w.move("fct"); w.binder("heard ! (%s) (λ ran." % fact); w.become(1)
+w.step("use1 W (some (λ (ys : %s). ‵ (lasts rn.ended %s ys) ⊛ raw (fact 𝓤 (%s)) ⊛ raw (fact 𝓤 (%s)) ⊛ raw (fact 𝓤 (%s)))) (id⊢ 𝓤 _)" % (times(["Head", "List Branch"] + ["List ℕ" if p.mut else "Unit {0}" for p in LIFES]), ARGS, fact, follows, read), ["ens"], "ens")
+w.binder("pick ! (λ ys."); w.split("ens", "las", "fct"); w.split("fct", "fct-ran", "others"); w.split("others", "fct-follows", "fct-read")
+for n, what in [("read", read), ("follows", follows), ("ran", fact)]:
+    w.move("fct-" + n); w.binder("heard ! (%s) (λ %s." % (what, n)); w.become(1)
 w.fsplit("las", "last", "las")
 w.fsplit("las", "one", "las"); w.fsplit("one", "fin-rows", "len"); w.feqL("len", "same-rows₂")
 for p in LIFES:
@@ -264,9 +266,10 @@ for i in range(NL):
 for i in range(NL): w.free("_%d" % i, "d_%d" % i)
 w.emit("free0 ! $"); w.keep("tok", *["fin-" + p.name for p in LIFES])
 start = "size %s r₁ %s (lent %s %s slab) same-rt₁ same-nt₁ made" % (LENT, H1, B1, z1s)
-said = "(then-batch %s input answers r %s (lent %s %s) %s ran)" % (start, H2, B2, names(NUMBERS + [SLAB], lambda p: Z2[p]), Z2[ANSWERS])
+lentDisk = "(diskOf disk marks) input"
+said = "(then-batch %s %s answers r %s (lent %s %s) %s ran)" % (start, lentDisk, H2, B2, names(NUMBERS + [SLAB], lambda p: Z2[p]), Z2[ANSWERS])
 sames = names(MUTS, lambda p: "(same-%s₂ ∙ same-%s₁)" % (p.name, p.name) if p in NUMBERS else "same-%s₂" % p.name)
-BODY = w.text("by ! (exits %s r %s %s (read ∙ read-made %s) %s %s)" % (H2, z2s, said, start, sames, OUTIS))
+BODY = w.text("by ! (exits %s r %s %s (disk-made %s %s (length answers) follows) (read ∙ read-made %s) %s %s)" % (H2, z2s, said, start, lentDisk, start, sames, OUTIS))
 
 k = lambda p: "(κs %s)" % PROJ(p.life)
 tells = nest(["uint-tells w32"] + ["%s (named %d) %s %s" % ("mut-slice-tells" if p.mut else "shr-slice-tells", p.life, k(p), p.elem) for p in LIFES])

@@ -11,12 +11,12 @@ class P:
     def __init__(self, name, kind, elem=None): self.name, self.kind, self.elem = name, kind, elem
 
 class Fn:
-    """leaves: what the contract says; read: what its second clause says, where it has one; each with its proof where there are too many rows"""
-    def __init__(self, name, about, params, core, core_args, out, field, res, leaves, many_leaves, read="", many_read=""):
+    """leaves: what the contract says; follows, read: what its other clauses say, where it has them; each with its proof where there are too many rows"""
+    def __init__(self, name, about, params, core, core_args, out, field, res, leaves, many_leaves, follows="", many_follows="", read="", many_read=""):
         self.name, self.kebab, self.about = name, name.replace("_", "-"), about
         self.core, self.core_kebab, self.core_args = core, core.replace("_", "-"), core_args
         self.out, self.field, self.res, self.leaves, self.many_leaves = out, field, res, leaves, many_leaves
-        self.read, self.many_read = read, many_read
+        self.follows, self.many_follows, self.read, self.many_read = follows, many_follows, read, many_read
         self.ps = params
         k = 0
         for i, p in enumerate(params):
@@ -85,7 +85,7 @@ class Fn:
             e = {"ref": ("h′", "tt"), "rows": ("zr", "same-rows"), "mut": ("z-" + p.name, "same-" + p.name)}.get(p.kind, ("tt", "tt"))
             ends.append(e[0]); sames.append(e[1])
         x.emit("qed W (%s) ∵" % ctxt)
-        x.emit("suffices ! _ (ends-at 𝓤 H A f.ended stayed (f.clauses 𝓤 H A at-mem run) W ((%s, %s, tt, a, at), tt) (%s) r %s %s) $ %s $" % (self.kappas(), self.queues(), self.low("r"), nest(ends), nest(sames), "says-both ! said read" if self.read else "says ! said"))
+        x.emit("suffices ! _ (ends-at 𝓤 H A f.ended stayed (f.clauses 𝓤 H A at-mem run) W ((%s, %s, tt, a, at), tt) (%s) r %s %s) $ %s $" % (self.kappas(), self.queues(), self.low("r"), nest(ends), nest(sames), "says-three ! said follows read" if self.read else "says ! said"))
         x.join("tk1", "tkrest", "tk2"); x.join("tk", "tk2", "tok"); x.emit("frame ! $"); x.become(1)
         x.emit("feqI ! (List Val) (vptr b₀ o₀ ∷ []) (vptr b₀ o₀ ∷ []) refl $"); x.become(0, "hfact"); x.step("fjoin3 !", ["hfact", "hobs", "hbor"], "head")
         x.nothing("acc")
@@ -115,7 +115,7 @@ class Fn:
             KAPPAS=self.kappas(), QUEUES=self.queues(), RTY=self.res["ty"], CTX=ctxt,
             SAID=self.leaves % dict(rows="ys", r="r", head="h′", rows2="zr", **{"z_" + p.name: "z-" + p.name for p in self.muts}),
             DID=self.leaves % dict(rows="(take (length ys) (branchRowsOf (full ys)))", r="(r .%s)" % self.field, head="(r .head)", rows2="(take (length ys) (branchRowsOf zt))", **{"z_" + p.name: "z-" + p.name for p in self.muts}),
-            READ=self.when("  -- and of the rows read\n  abbrev Read : List Branch → %s → Type 0\n  Read rows r = %s\n\n" % (self.res["ty"], self.read)), READR=self.when("→ Read ys r "), READN=self.when("read "),
+            READ=self.when("  -- of the live disk, and of the rows read\n  abbrev Follows : List Branch → List ℕ → List ℕ → Type 0\n  Follows rows z-disk z-marks = %s\n\n  abbrev Read : List Branch → %s → Type 0\n  Read rows r = %s\n\n" % (self.follows, self.res["ty"], self.read)), READR=self.when("→ Follows ys z-disk z-marks → Read ys r "), READN=self.when("follows read "),
             ZTYS=" → ".join("List ℕ" for p in self.muts), ZNAMES=" ".join("z-" + p.name for p in self.muts), ZVARS=zs,
             SAMES=" → ".join("length z-%s ≡ length %s" % (p.name, p.var) for p in self.muts), SAMEN=" ".join("same-" + p.name for p in self.muts),
             RIS=self.is_("r"), LOWR=self.low("r"), EXITS=exits_body,
@@ -126,7 +126,7 @@ class Fn:
         return fill(HEADER, sub)
 
     def when(self, text):
-        """a text for the second clause, where there is one"""
+        """a text for the other clauses, where there are any"""
         return text if self.read else ""
 
     # ---- the result
@@ -192,7 +192,7 @@ class Fn:
             w.step("use1 W (‵ (finally %s γ%s %s)) (gives-slice 𝓤 H A W (named %d) %s %s x%s (s%s ∷ []))" % (p.elem, S(p.i), p.var, p.life, self.K(p), p.elem, S(p.i), S(p.i)), ["own-" + p.name], "fin-" + p.name)
         n = len(self.ps)
         live = list(range(n + 1)) + [n + 3, n + 4]
-        return self.end(w, live, "by ! (exits refused h ys %s (%s) %srefl %s refused-is)" % (" ".join(p.var for p in self.muts), self.many_leaves, self.when("(%s) " % self.many_read), " ".join("refl" for p in self.muts)))
+        return self.end(w, live, "by ! (exits refused h ys %s (%s) %srefl %s refused-is)" % (" ".join(p.var for p in self.muts), self.many_leaves, self.when("(%s) (%s) " % (self.many_follows, self.many_read)), " ".join("refl" for p in self.muts)))
 
     def reborrow(self, w, p, refl, dst):
         w.assign("addr ! (from ! (fld ! refl (hop ! (look-in ! %d (sub ! 0 refl (whole !))) (stop !))))" % w.p(p.local), refl, "tt, tt")
@@ -283,11 +283,15 @@ class Fn:
         pos = {n: "(zs₂ %s)" % PROJ(i) for i, n in enumerate(self.core_args)}
         zty = times("List ℕ" if n == "table" or (n in self.by and self.by[n].kind == "mut") else "Unit {0}" for n in self.core_args)
         did = "Did r %s %s" % (pos["table"], " ".join(pos[p.name] for p in self.muts))
-        read = "Read (take (length ys) (branchRowsOf (full ys))) (r .%s)" % self.field
-        w.step("use1 W (some (λ (zs₂ : %s). ‵ (lasts co.ended %s zs₂) ⊛ raw (fact 𝓤 (%s))%s)) (id⊢ 𝓤 _)" % (zty, args, did, self.when(" ⊛ raw (fact 𝓤 (%s))" % read)), ["ens"], "ens")
+        rows = "(take (length ys) (branchRowsOf (full ys)))"
+        follows = self.when("Follows %s %s %s" % (rows, pos.get("disk"), pos.get("marks")))
+        read = "Read %s (r .%s)" % (rows, self.field)
+        w.step("use1 W (some (λ (zs₂ : %s). ‵ (lasts co.ended %s zs₂) ⊛ raw (fact 𝓤 (%s))%s)) (id⊢ 𝓤 _)" % (zty, args, did, self.when(" ⊛ raw (fact 𝓤 (%s)) ⊛ raw (fact 𝓤 (%s))" % (follows, read))), ["ens"], "ens")
         w.binder("pick ! (λ zs₂."); w.split("ens", "las", "fct")
         if self.read:
-            w.split("fct", "fct", "fct-read"); w.move("fct-read"); w.binder("heard ! (%s) (λ read." % read); w.become(1)
+            w.split("fct", "fct", "others"); w.split("others", "fct-follows", "fct-read")
+            for n, what in [("read", read), ("follows", follows)]:
+                w.move("fct-" + n); w.binder("heard ! (%s) (λ %s." % (what, n)); w.become(1)
         w.move("fct"); w.binder("heard ! (%s) (λ did." % did); w.become(1)
         for n in self.core_args:
             w.fsplit("las", "one", "las")
@@ -333,7 +337,7 @@ class Fn:
         w.emit("returns ! (look ! %d refl) $" % w.p("_0"))
         live = [i for i in range(self.NL) if "_%d" % i != L["table"]]
         zmut = " ".join(pos[p.name] for p in self.muts)
-        return self.end(w, live, "by ! (exits (r .%s) (r .head) (zs₃ .0) %s (stored-said small r %s (zs₃ .0) %s did e-rows) %ssame-rows %s (field-is r is))" % (self.field, zmut, zt, zmut, self.when("(rw (full-rows ys small) at read) "), " ".join("same-" + p.name for p in self.muts)))
+        return self.end(w, live, "by ! (exits (r .%s) (r .head) (zs₃ .0) %s (stored-said small r %s (zs₃ .0) %s did e-rows) %ssame-rows %s (field-is r is))" % (self.field, zmut, zt, zmut, self.when("(rw (full-rows ys small) at follows) (rw (full-rows ys small) at read) "), " ".join("same-" + p.name for p in self.muts)))
 
     def footer(self):
         lifes = [p for p in self.ps if p.life is not None]
@@ -370,7 +374,7 @@ HEADER = open('tools/lent/thin_header.txt').read()
 FOOTER = open('tools/lent/thin_footer.txt').read()
 
 REPORT = dict(ty="Report", row="Q.the-row", low="Q′.lowered %s", makes="(LL.makes Q.the-type Q′.the-plain) 𝓤 H A", typed="LL.lawful Q.the-type Q′.the-laws 𝓤 H A W .typed %s _ %s .0",
-    specs="use Rattle.lent.specs.declared.Report.{Report}\nuse Rattle.lent.specs.declared.Ended.{Ended}\nuse Rattle.lent.specs.Lent.{lent, lentBatch, lentRead, BatchLeaves}\nuse Rattle.lent.proofs.Lending.{many-batch-leaves, many-read}",
+    specs="use Rattle.live.specs.Live.{diskOf}\nuse Rattle.lent.specs.declared.Report.{Report}\nuse Rattle.lent.specs.declared.Ended.{Ended}\nuse Rattle.lent.specs.Lent.{lent, lentBatch, lentRead, BatchLeaves}\nuse Rattle.lent.proofs.Lending.{many-batch-leaves, many-disk, many-read}",
     mods="use Rattle.lent.proofs.Report as Q\nuse Rattle.lent.proofs.Report.Laws as Q′\n", outmod="Rattle.lent.proofs.Ended",
     refused="record { stop = 1; answered = 0; taken = 0; sent = 0; rows = 0 }", refused_is="LL.owes Q.the-type Q′.the-laws refused %s" % nest(["(refl, lit< tt)"] * 5),
     refused_rv="agg ! " + Walk([]).opds(*["(lit ! tt)"] * 5))
@@ -382,10 +386,12 @@ numbers = [P(t, "mut", "u32") for t in TABLES]
 names = " ".join(TABLES)
 lasts = " ".join("%%(z_%s)s" % t for t in TABLES)
 lent = "(lent %%(rows)s %s slab)" % names
-Fn("run_batch", "a batch", [P("head", "ref"), P("branches", "rows")] + numbers + [P("slab", "mut", "u8"), P("input", "shr", "u8"), P("answers", "mut", "u8")],
-   "batch_rows", ["head", "count", "table"] + TABLES + ["slab", "input", "answers"], "Ended", "report", REPORT,
-   "BatchLeaves (lentBatch h %s input (length answers)) %s answers %%(r)s %%(head)s (lent %%(rows2)s %s %%(z_slab)s) %%(z_answers)s" % (lent, lent, lasts),
-   "many-batch-leaves h (lent ys %s slab) big input answers" % names,
+batch = "lentBatch h %s (diskOf disk marks) input (length answers)" % lent
+Fn("run_batch", "a batch", [P("head", "ref"), P("branches", "rows")] + numbers + [P("slab", "mut", "u8"), P("disk", "mut", "u8"), P("marks", "mut", "u8"), P("input", "shr", "u8"), P("answers", "mut", "u8")],
+   "batch_rows", ["head", "count", "table"] + TABLES + ["slab", "disk", "marks", "input", "answers"], "Ended", "report", REPORT,
+   "BatchLeaves (%s .run) %s answers %%(r)s %%(head)s (lent %%(rows2)s %s %%(z_slab)s) %%(z_answers)s" % (batch, lent, lasts),
+   "many-batch-leaves h (lent ys %s slab) big (diskOf disk marks) input answers" % names,
+   "diskOf z-disk z-marks ≡ %s .disk" % batch % dict(rows="rows"), "many-disk h (lent ys %s slab) big (diskOf disk marks) input (length answers)" % names,
    "r .rows ≡ lentRead h (lent rows %s slab)" % names, "many-read h (lent ys %s slab) big" % names).write()
 Fn("make_fresh", "making a fresh store", [P("head", "ref"), P("size", "num"), P("branches", "rows")] + [P(t, "mut", "u32") for t in TABLES] + [P("slab", "shr", "u8")],
    "fresh_rows", ["head", "size", "count", "table"] + TABLES + ["slab"], "Made", "refusal", NUMBER,

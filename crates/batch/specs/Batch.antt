@@ -1,19 +1,22 @@
--- A batch on what is lent: every number of head, tables, slab and answer area.
+-- A batch on what is lent: every number of head, tables, slab, live disk and answer area.
 use mathlib.Core.Path.{_≡_}
 use mathlib.Core.List.{List}
 use mathlib.Core.Bool.{cond}
 use Prim.Native.Nat.{ℕ}
 use Rattle.model.specs.declared.Head.{Head}
-use Rattle.model.specs.Batch.{Run, ended, answeredCount, requestCount, answerCount, areaAfter, batch}
+use Rattle.model.specs.Batch.{Run, ended, answeredCount, requestCount, answerCount, areaAfter}
+use Rattle.live.specs.Live.{LiveDisk, LiveRun, liveBatch}
 use Rattle.rows.specs.View.{Tables, storeOf, laid}
 use Rattle.soundness.specs.Check.{wholeTables}
+use Rattle.disk_check.specs.Check.{liveOf}
 use Rattle.wire.specs.declared.Parsed.{Parsed}
 use Rattle.wire.specs.declared.Parsed.the-variants.{End, Stop, One}
 use Rattle.batch.specs.declared.Done.{Done}
 
--- the model's batch on what is lent; a table that is no whole number of rows is refusal 1
-unfoldable pub batchOf : Head → Tables → List ℕ → ℕ → Run
-batchOf head t input space = cond (wholeTables t) (batch (storeOf head t) input space) (ended (storeOf head t) 1)
+-- a batch on what is lent, and the live disk behind it; a table that is no whole number of rows is refusal 1
+unfoldable pub batchOf : Head → Tables → LiveDisk → List ℕ → ℕ → LiveRun
+batchOf head t d input space =
+    cond (wholeTables t) (liveBatch (liveOf head t d) input space) (record { run = ended (storeOf head t) 1; disk = d })
 
 -- the stop number, the three counts, the head, every number of each table, the slab and the answer area are as a run says
 pub record BatchLeaves (run : Run) (t : Tables) (area : List ℕ) (r : Done) (t′ : Tables) (area′ : List ℕ) : Type 0 where

@@ -1,4 +1,4 @@
-// A batch: the table checks once, then requests one after the other, each on the store that the last one left.
+// A batch: the checks once, then requests one after the other, each on the store that the last one left; the live disk follows.
 use model::Head;
 use rows::Outcome;
 use wire::Parsed;
@@ -7,6 +7,8 @@ ghost use mathlib.Core.Path.{_≡_};
 ghost use lib.ListN.{length};
 ghost use Rattle.model.specs.Batch.{batch};
 ghost use Rattle.model.specs.ByNumber.{Sound, Whole};
+ghost use Rattle.live.specs.Live.{diskOf, played};
+ghost use Rattle.live.specs.Fit.{Fit};
 ghost use Rattle.rows.specs.View.{tables, storeOf, Carried};
 ghost use Rattle.soundness.specs.Check.{readOf};
 ghost use Rattle.wire.specs.Requests.{requestOf};
@@ -71,7 +73,7 @@ pub fn stop_number(p: Parsed) -> u32
     }
 }
 
-// The requests of an input, on sound tables.
+// The requests of an input, on sound tables, and on a live disk that fits them.
 pub fn run(
     first: Head,
     bt: &mut [u32],
@@ -79,11 +81,14 @@ pub fn run(
     pt: &mut [u32],
     nt: &mut [u32],
     slab: &mut [u8],
+    disk: &mut [u8],
+    marks: &mut [u8],
     input: &[u8],
     answers: &mut [u8],
 ) -> Done
-    requires { ⌜ Sound (storeOf first (tables (now bt) (now rt) (now pt) (now nt) (now slab))) ⌝ }
+    requires { ⌜ Fit (storeOf first (tables (now bt) (now rt) (now pt) (now nt) (now slab))) (diskOf (now disk) (now marks)) ⌝ }
     ensures { λ r. ⌜ BatchLeaves (batch (storeOf first (tables (now (bt .entry)) (now (rt .entry)) (now (pt .entry)) (now (nt .entry)) (now (slab .entry)))) (now (input .entry)) (length (now (answers .entry)))) (tables (now (bt .entry)) (now (rt .entry)) (now (pt .entry)) (now (nt .entry)) (now (slab .entry))) (now (answers .entry)) r (tables (now (bt .exit)) (now (rt .exit)) (now (pt .exit)) (now (nt .exit)) (now (slab .exit))) (now (answers .exit)) ⌝ }
+    ensures { λ _. ⌜ diskOf (now (disk .exit)) (now (marks .exit)) ≡ played (diskOf (now (disk .entry)) (now (marks .entry))) (batch (storeOf first (tables (now (bt .entry)) (now (rt .entry)) (now (pt .entry)) (now (nt .entry)) (now (slab .entry)))) (now (input .entry)) (length (now (answers .entry))) .log) ⌝ }
 {
     let mut head = first;
     let mut answered: usize = 0;
@@ -107,6 +112,7 @@ pub fn run(
             return report(head, 14, answered, at, out);
         }
         wire::put_answer(&mut answers[out..], slab, r);
+        following::follow(disk, marks, part, q, r.refusal);
         answered += 1;
         at += n;
         out += size;
@@ -126,7 +132,7 @@ pub fn report(head: Head, stop: u32, answered: usize, taken: usize, sent: usize)
     }
 }
 
-// A batch on what is lent, whatever it holds. Where the table checks refuse, nothing is written.
+// A batch on what is lent, whatever it holds. Where the checks refuse, nothing is written.
 pub fn batch(
     head: Head,
     bt: &mut [u32],
@@ -134,18 +140,21 @@ pub fn batch(
     pt: &mut [u32],
     nt: &mut [u32],
     slab: &mut [u8],
+    disk: &mut [u8],
+    marks: &mut [u8],
     input: &[u8],
     answers: &mut [u8],
 ) -> Batched
-    ensures { λ r. ⌜ BatchLeaves (batchOf head (tables (now (bt .entry)) (now (rt .entry)) (now (pt .entry)) (now (nt .entry)) (now (slab .entry))) (now (input .entry)) (length (now (answers .entry)))) (tables (now (bt .entry)) (now (rt .entry)) (now (pt .entry)) (now (nt .entry)) (now (slab .entry))) (now (answers .entry)) (r .done) (tables (now (bt .exit)) (now (rt .exit)) (now (pt .exit)) (now (nt .exit)) (now (slab .exit))) (now (answers .exit)) ⌝ }
+    ensures { λ r. ⌜ BatchLeaves (batchOf head (tables (now (bt .entry)) (now (rt .entry)) (now (pt .entry)) (now (nt .entry)) (now (slab .entry))) (diskOf (now (disk .entry)) (now (marks .entry))) (now (input .entry)) (length (now (answers .entry))) .run) (tables (now (bt .entry)) (now (rt .entry)) (now (pt .entry)) (now (nt .entry)) (now (slab .entry))) (now (answers .entry)) (r .done) (tables (now (bt .exit)) (now (rt .exit)) (now (pt .exit)) (now (nt .exit)) (now (slab .exit))) (now (answers .exit)) ⌝ }
+    ensures { λ _. ⌜ diskOf (now (disk .exit)) (now (marks .exit)) ≡ batchOf head (tables (now (bt .entry)) (now (rt .entry)) (now (pt .entry)) (now (nt .entry)) (now (slab .entry))) (diskOf (now (disk .entry)) (now (marks .entry))) (now (input .entry)) (length (now (answers .entry))) .disk ⌝ }
     ensures { λ r. ⌜ r .rows ≡ readOf head (tables (now (bt .entry)) (now (rt .entry)) (now (pt .entry)) (now (nt .entry)) (now (slab .entry))) ⌝ }
 {
-    let found = soundness::check(head, bt, rt, pt, nt, slab);
+    let found = disk_check::check(head, bt, rt, pt, nt, slab, disk, marks);
     let rows = found.rows;
     if found.refusal != 0 {
         let done = report(head, found.refusal, 0, 0, 0);
         return Batched { done, rows };
     }
-    let done = run(head, bt, rt, pt, nt, slab, input, answers);
+    let done = run(head, bt, rt, pt, nt, slab, disk, marks, input, answers);
     Batched { done, rows }
 }

@@ -1,8 +1,6 @@
-pub mod Areas
-pub mod Fresh
-pub mod Batch
-pub mod Holding
+pub mod Told
 pub mod Demand3
 pub mod Packed
 pub mod Commissioned
 pub mod RowsRead
+pub mod LiveDemand

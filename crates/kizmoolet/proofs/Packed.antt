@@ -2,7 +2,7 @@
 use Prim.Native.Nat.{ℕ, zero, suc, _+_, _*_, _/_, _≤_, _<_, suc-le-suc}
 use mathlib.Core.Path.{_≡_, refl, sym, ap, subst, _∙_}
 use mathlib.Core.Logic.{inl, inr}
-use mathlib.Core.List.{List, _++_, map}
+use mathlib.Core.List.{List, _++_}
 use native.Mathlib.Omega.{arith}
 use lib.ListN.{length, getD, take, drop, length-drop}
 use lib.Seq.{length-take-le, getD-drop}
@@ -20,21 +20,21 @@ use Rattle.rows.proofs.View.{laid-self}
 use Rattle.tables.specs.Numbers.{spelledAt, spelled, numbersOf, headOf}
 use Rattle.tables.specs.Tables.{numbersIn, bytesIn}
 use Rattle.tables.proofs.RoundTrip.{bytes-numbers, bytes-head}
-use Rattle.kizmoolet.specs.Lent.{Lent, storeIn}
-use Rattle.kizmoolet.specs.Fresh.{freshBytes}
+use Rattle.areas.specs.Lent.{Lent, storeIn}
+use Rattle.fresh_areas.specs.Fresh.{freshBytes}
 use Rattle.kizmoolet.specs.Demand3.{areasAfter, answeredIn}
 use Rattle.kizmoolet.specs.Packed.{StaysPacked, Bytes, CopyIn, CopiesAgree}
-use Rattle.kizmoolet.proofs.Areas.{lengths-of}
-use Rattle.kizmoolet.proofs.Holding.{Holds}
-use Rattle.kizmoolet.proofs.Demand3.{callOf, Ready, Follows, follows, all-sent, reads, made, made-ready}
+use Rattle.areas.proofs.Areas.{lengths-of}
+use Rattle.areas.proofs.Holding.{Holds}
+use Rattle.kizmoolet.proofs.Demand3.{Ready, Follows, follows, all-sent, reads, made, made-ready}
 
 pub stays-packed-bytes : StaysPacked
 stays-packed-bytes lent size calls n z u =
     let first : Lent = freshBytes size lent .areas in
     let s : Store = madeFresh (storeIn lent) size in
     let f : Follows first s calls = follows first s (made-ready lent size z) calls in
-    let u′ : HeldUpTo n empty (answered s (map callOf calls)) = rw (f .requests) at u in
-    subst (λ (x : Store). slabInUse x ≤ 256 * n) (sym (f .ready .holds .store)) (stays-packed (storeIn lent) size (map callOf calls) n (made lent size z .1) u′)
+    let u′ : HeldUpTo n empty (answered s (f .served)) = rw (f .requests) at u in
+    subst (λ (x : Store). slabInUse x ≤ 256 * n) (sym (f .ready .holds .store)) (stays-packed (storeIn lent) size (f .served) n (made lent size z .1) u′)
 
 -- every element of a list made one by one
 all-tab : {A : Type 0} {P : A → Type 0} (n : ℕ) (f : ℕ → A) → ((i : ℕ) → i < n → P (f i)) → All P (tab n f)
@@ -103,18 +103,18 @@ copies-agree-bytes lent size calls c more z k =
     let first : Lent = freshBytes size lent .areas in
     let s : Store = madeFresh (storeIn lent) size in
     let f : Follows first s calls = follows first s (made-ready lent size z) calls in
-    let kept : Copy (after s (map callOf calls)) (storeIn c) = rw (f .ready .holds .store) at (k .copy) in
+    let kept : Copy (after s (f .served)) (storeIn c) = rw (f .ready .holds .store) at (k .copy) in
     let r : Ready c (storeIn c) = record {
       holds = copy-holds (areasAfter first calls) c k;
-      sound = copy-sound (after s (map callOf calls)) (storeIn c) kept (f .ready .sound);
+      sound = copy-sound (after s (f .served)) (storeIn c) kept (f .ready .sound);
       narrow = copy-narrow (areasAfter first calls) c k;
     } in
     let g : Follows c (storeIn c) more = follows c (storeIn c) r more in
-    let a : Agrees size (after (storeIn c) (map callOf more)) (fed empty (answeredIn first calls ++ answeredIn c more)) (answeredIn first calls ++ answeredIn c more) =
-    rw (f .requests, g .requests) (copies-agree (storeIn lent) size (map callOf calls) (storeIn c) (map callOf more) (made lent size z .1) kept) in (
+    let a : Agrees size (after (storeIn c) (g .served)) (fed empty (answeredIn first calls ++ answeredIn c more)) (answeredIn first calls ++ answeredIn c more) =
+    rw (f .requests, g .requests) (copies-agree (storeIn lent) size (f .served) (storeIn c) (g .served) (made lent size z .1) kept) in (
       record {
         store = rw (g .ready .holds .store) a;
-        reads = reads size (areasAfter c more) (after (storeIn c) (map callOf more)) _ _ (g .ready) a;
+        reads = reads size (areasAfter c more) (after (storeIn c) (g .served)) _ _ (g .ready) a;
       },
       all-sent c (storeIn c) r more,
     )

@@ -8,16 +8,18 @@ use Rattle.model.specs.declared.Name.{Name}
 use Rattle.model.specs.Store.{names, _∈_}
 use Rattle.model.specs.Wire.{readAt, requestBytes, Answer, answerBytes}
 use Rattle.model.specs.Commissioned.{StaysGiven}
-use Rattle.kizmoolet.specs.Lent.{Lent, storeIn}
-use Rattle.kizmoolet.specs.Fresh.{freshBytes}
-use Rattle.kizmoolet.specs.Batch.{batchLeft, readIn, batchBytes}
+use Rattle.live.specs.Live.{LiveDisk, diskCheck}
+use Rattle.areas.specs.Lent.{Lent, storeIn}
+use Rattle.fresh_areas.specs.Fresh.{freshBytes}
+use Rattle.batch_areas.specs.Batch.{batchLeft, readIn, batchBytes}
 use Rattle.kizmoolet.specs.Demand3.{AreaCall, areasAfter, answeredIn, inFrontOf}
 
--- a call that holds just a read, by its bytes, gets this answer wherever the answer has room, and leaves the areas as they are
+-- a call that holds just a read, by its bytes, with a live disk that fits, gets this answer wherever the answer has room, and leaves the
+-- areas as they are
 abbrev pub Gets : Lent → ℕ → ℕ → Answer → Type 0
 Gets l a t x =
-    (area : List ℕ) → length (answerBytes x) ≤ length area
-    → batchBytes l (requestBytes (readAt a t)) area ≡ batchLeft 0 1 7 (length (answerBytes x)) (readIn l) l (inFrontOf (answerBytes x) area)
+    (d : LiveDisk) (area : List ℕ) → diskCheck (storeIn l .head .size) d ≡ 0 → length (answerBytes x) ≤ length area
+    → batchBytes l d (requestBytes (readAt a t)) area ≡ batchLeft 0 1 7 (length (answerBytes x)) (readIn l) l d (inFrontOf (answerBytes x) area)
 
 -- a row that areas held is held by others, and a call that reads at its moment gets the same answer of both
 pub record AsNamedIn (l l′ : Lent) (n : Name) : Type 0 where

@@ -1,7 +1,6 @@
-pub mod Lent
-pub mod Fresh
-pub mod Batch
+pub mod Told
 pub mod Demand3
 pub mod Packed
 pub mod Commissioned
 pub mod RowsRead
+pub mod LiveDemand

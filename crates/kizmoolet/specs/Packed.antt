@@ -7,8 +7,8 @@ use lib.ListN.{getD}
 use Rattle.model.specs.Reference.{empty}
 use Rattle.model.specs.Demand3.{fed}
 use Rattle.model.specs.Packed.{slabInUse, HeldUpTo, Copy}
-use Rattle.kizmoolet.specs.Lent.{Lent, fits, storeIn}
-use Rattle.kizmoolet.specs.Fresh.{freshBytes}
+use Rattle.areas.specs.Lent.{Lent, fits, storeIn}
+use Rattle.fresh_areas.specs.Fresh.{freshBytes}
 use Rattle.kizmoolet.specs.Demand3.{AreaCall, areasAfter, answeredIn, AgreesIn, AllSent}
 
 -- every list of calls on the areas of a fresh store: the slab is never in use past the pages of the most records held at once

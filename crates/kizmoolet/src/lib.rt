@@ -1,99 +1,12 @@
-// The entries for C: head and tables as bytes, decoded to local arrays and encoded back.
-use batch::Batched;
-use batch::Done;
-use fresh::Made;
-use model::Head;
-use record_check::Finding;
-ghost use mathlib.Core.Path.{_≡_};
-ghost use mathlib.Core.Bool.{true};
-ghost use lib.ListN.{length};
-ghost use Rattle.model.specs.ByNumber.{Sound};
-ghost use Rattle.model.specs.Batch.{batch};
-ghost use Rattle.rows.specs.View.{tables, numberTables, storeOf};
-ghost use Rattle.soundness.specs.Check.{findingOf};
-ghost use Rattle.tables.specs.Tables.{numbersIn, Room};
-ghost use Rattle.kizmoolet.specs.Lent.{lent, fits};
-ghost use Rattle.kizmoolet.specs.Batch.{batchLeft, BatchDone, RunSaved, TriedOn};
-ghost use Rattle.kizmoolet.specs.Fresh.{freshLeft, FreshDone, FreshSaved};
-
-// What a batch on tables of bytes came to: refused by the table checks, or carried out.
-pub enum Tried {
-    Refused(Finding),
-    Served(Batched),
-}
-
-// A fresh store made in tables of zeros and written as bytes; a refusal writes nothing.
-fn fresh_tables(
-    size: u32,
-    branches: &mut [u8],
-    records: &mut [u8],
-    places: &mut [u8],
-    names: &mut [u8],
-    slab: &[u8],
-    bt: &mut [u32],
-    rt: &mut [u32],
-    pt: &mut [u32],
-    nt: &mut [u32],
-) -> Made
-    requires { ⌜ Room (numberTables (now branches) (now records) (now places) (now names)) (numberTables (now bt) (now rt) (now pt) (now nt)) ⌝ }
-    ensures { λ r. ⌜ FreshSaved size (tables (now (branches .entry)) (now (records .entry)) (now (places .entry)) (now (names .entry)) (now (slab .entry))) r (tables (now (branches .exit)) (now (records .exit)) (now (places .exit)) (now (names .exit)) (now (slab .entry))) ⌝ }
-{
-    let none = Head {
-        size: 0,
-        branches: 0,
-        records: 0,
-        now: 0,
-        floor: 0,
-        names: 0,
-    };
-    let made = fresh::make(none, size, bt, rt, pt, nt, slab);
-    if made.refusal != 0 {
-        return made;
-    }
-    tables::save(bt, rt, pt, nt, branches, records, places, names);
-    made
-}
-
-// A fresh store in areas of bytes whose lengths fit.
-fn fresh_areas(
-    size: u32,
-    head: &mut [u8],
-    branches: &mut [u8],
-    records: &mut [u8],
-    places: &mut [u8],
-    names: &mut [u8],
-    slab: &[u8],
-) -> u32
-    requires { ⌜ fits (lent (now head) (now branches) (now records) (now places) (now names) (now slab)) ≡ true ⌝ }
-    ensures { λ r. ⌜ FreshDone size (lent (now (head .entry)) (now (branches .entry)) (now (records .entry)) (now (places .entry)) (now (names .entry)) (now (slab .entry))) (freshLeft r (lent (now (head .exit)) (now (branches .exit)) (now (records .exit)) (now (places .exit)) (now (names .exit)) (now (slab .entry)))) ⌝ }
-{
-    let nb = branches.len() / 4;
-    let nr = records.len() / 4;
-    let np = places.len() / 4;
-    let mut bt = tables::branch_room();
-    let mut rt = tables::record_room();
-    let mut pt = tables::place_room();
-    let mut nt = tables::name_room();
-    let made = fresh_tables(
-        size,
-        branches,
-        records,
-        places,
-        names,
-        slab,
-        &mut bt[..nb],
-        &mut rt[..nr],
-        &mut pt[..np],
-        &mut nt,
-    );
-    let refusal = made.refusal;
-    if refusal != 0 {
-        return refusal;
-    }
-    let new = made.head;
-    tables::put_head(head, new);
-    0
-}
+// The entries for C: areas of bytes of any lengths, and numbers told through pointers.
+use live::Spot;
+ghost use Rattle.live.specs.Live.{diskOf};
+ghost use Rattle.areas.specs.Lent.{lent};
+ghost use Rattle.fresh_areas.specs.Fresh.{freshLeft, FreshDone};
+ghost use Rattle.batch_areas.specs.Batch.{batchLeft, BatchDone};
+ghost use Rattle.copying.specs.Copy.{Copies};
+ghost use Rattle.live_areas.specs.Live.{liveReadBytes, copyBytes};
+ghost use Rattle.kizmoolet.specs.Told.{Tells};
 
 // Makes a fresh store of `size` pages; 1, and nothing written, where the size or a length is not allowed.
 #[no_mangle]
@@ -118,143 +31,7 @@ pub extern "C" fn kizmoolet_fresh(
     if !fit {
         return 1;
     }
-    fresh_areas(size, head, branches, records, places, names, slab)
-}
-
-// The numbers of the tables, and what the table checks find. The areas are only read.
-fn load_checked(
-    head: Head,
-    branches: &[u8],
-    records: &[u8],
-    places: &[u8],
-    names: &[u8],
-    slab: &[u8],
-    bt: &mut [u32],
-    rt: &mut [u32],
-    pt: &mut [u32],
-    nt: &mut [u32],
-) -> Finding
-    requires { ⌜ Room (numberTables (now branches) (now records) (now places) (now names)) (numberTables (now bt) (now rt) (now pt) (now nt)) ⌝ }
-    ensures { λ r. ⌜ r ≡ findingOf head (numbersIn (tables (now (branches .entry)) (now (records .entry)) (now (places .entry)) (now (names .entry)) (now (slab .entry)))) ⌝ }
-    ensures { λ _. ⌜ numberTables (now (bt .exit)) (now (rt .exit)) (now (pt .exit)) (now (nt .exit)) ≡ numbersIn (numberTables (now (branches .entry)) (now (records .entry)) (now (places .entry)) (now (names .entry))) ⌝ }
-{
-    tables::load(branches, records, places, names, bt, rt, pt, nt);
-    soundness::check(head, bt, rt, pt, nt, slab)
-}
-
-// A batch on sound tables, which are those of the areas, and then written there.
-fn run_saved(
-    head: Head,
-    branches: &mut [u8],
-    records: &mut [u8],
-    places: &mut [u8],
-    names: &mut [u8],
-    slab: &mut [u8],
-    input: &[u8],
-    answers: &mut [u8],
-    bt: &mut [u32],
-    rt: &mut [u32],
-    pt: &mut [u32],
-    nt: &mut [u32],
-) -> Done
-    requires { ⌜ Room (numberTables (now branches) (now records) (now places) (now names)) (numberTables (now bt) (now rt) (now pt) (now nt)) ⌝ }
-    requires { ⌜ numberTables (now bt) (now rt) (now pt) (now nt) ≡ numbersIn (numberTables (now branches) (now records) (now places) (now names)) ⌝ }
-    requires { ⌜ Sound (storeOf head (tables (now bt) (now rt) (now pt) (now nt) (now slab))) ⌝ }
-    ensures { λ r. ⌜ RunSaved (batch (storeOf head (numbersIn (tables (now (branches .entry)) (now (records .entry)) (now (places .entry)) (now (names .entry)) (now (slab .entry))))) (now (input .entry)) (length (now (answers .entry)))) (tables (now (branches .entry)) (now (records .entry)) (now (places .entry)) (now (names .entry)) (now (slab .entry))) (now (answers .entry)) r (tables (now (branches .exit)) (now (records .exit)) (now (places .exit)) (now (names .exit)) (now (slab .exit))) (now (answers .exit)) ⌝ }
-{
-    let done = batch::run(head, bt, rt, pt, nt, slab, input, answers);
-    tables::save(bt, rt, pt, nt, branches, records, places, names);
-    done
-}
-
-// A batch on tables of bytes, with room for their numbers; a refusal writes nothing.
-fn batch_tables(
-    head: Head,
-    branches: &mut [u8],
-    records: &mut [u8],
-    places: &mut [u8],
-    names: &mut [u8],
-    slab: &mut [u8],
-    batch: &[u8],
-    answers: &mut [u8],
-    bt: &mut [u32],
-    rt: &mut [u32],
-    pt: &mut [u32],
-    nt: &mut [u32],
-) -> Tried
-    requires { ⌜ Room (numberTables (now branches) (now records) (now places) (now names)) (numberTables (now bt) (now rt) (now pt) (now nt)) ⌝ }
-    ensures { λ r. ⌜ TriedOn head (tables (now (branches .entry)) (now (records .entry)) (now (places .entry)) (now (names .entry)) (now (slab .entry))) (now (batch .entry)) (now (answers .entry)) r (tables (now (branches .exit)) (now (records .exit)) (now (places .exit)) (now (names .exit)) (now (slab .exit))) (now (answers .exit)) ⌝ }
-{
-    let found = load_checked(head, branches, records, places, names, slab, bt, rt, pt, nt);
-    if found.refusal != 0 {
-        return Tried::Refused(found);
-    }
-    let done = run_saved(
-        head,
-        branches,
-        records,
-        places,
-        names,
-        slab,
-        batch,
-        answers,
-        bt,
-        rt,
-        pt,
-        nt,
-    );
-    let rows = found.rows;
-    Tried::Served(Batched { done, rows })
-}
-
-// A batch on areas of bytes whose lengths fit; a refusal writes nothing.
-fn batch_areas(
-    head: &mut [u8],
-    branches: &mut [u8],
-    records: &mut [u8],
-    places: &mut [u8],
-    names: &mut [u8],
-    slab: &mut [u8],
-    batch: &[u8],
-    answers: &mut [u8],
-) -> Batched
-    requires { ⌜ fits (lent (now head) (now branches) (now records) (now places) (now names) (now slab)) ≡ true ⌝ }
-    ensures { λ r. ⌜ BatchDone (lent (now (head .entry)) (now (branches .entry)) (now (records .entry)) (now (places .entry)) (now (names .entry)) (now (slab .entry))) (now (batch .entry)) (now (answers .entry)) (batchLeft (r .done .stop) (r .done .answered) (r .done .taken) (r .done .sent) (r .rows) (lent (now (head .exit)) (now (branches .exit)) (now (records .exit)) (now (places .exit)) (now (names .exit)) (now (slab .exit))) (now (answers .exit))) ⌝ }
-{
-    let nb = branches.len() / 4;
-    let nr = records.len() / 4;
-    let np = places.len() / 4;
-    let first = tables::get_head(head);
-    let mut bt = tables::branch_room();
-    let mut rt = tables::record_room();
-    let mut pt = tables::place_room();
-    let mut nt = tables::name_room();
-    let tried = batch_tables(
-        first,
-        branches,
-        records,
-        places,
-        names,
-        slab,
-        batch,
-        answers,
-        &mut bt[..nb],
-        &mut rt[..nr],
-        &mut pt[..np],
-        &mut nt,
-    );
-    match tried {
-        Tried::Refused(found) => {
-            let done = batch::report(first, found.refusal, 0, 0, 0);
-            let rows = found.rows;
-            Batched { done, rows }
-        }
-        Tried::Served(served) => {
-            let last = served.done.head;
-            tables::put_head(head, last);
-            served
-        }
-    }
+    fresh_areas::fresh_areas(size, head, branches, records, places, names, slab)
 }
 
 // Carries out a batch; the result is the stop number. Always written: the requests answered, the bytes of those requests that were
@@ -267,6 +44,8 @@ pub extern "C" fn kizmoolet_batch(
     places: &mut [u8],
     names: &mut [u8],
     slab: &mut [u8],
+    disk: &mut [u8],
+    marks: &mut [u8],
     batch: &[u8],
     answers: &mut [u8],
     answered: &mut u64,
@@ -274,7 +53,7 @@ pub extern "C" fn kizmoolet_batch(
     sent: &mut u64,
     rows: &mut u64,
 ) -> u32
-    ensures { λ r. ⌜ BatchDone (lent (now (head .entry)) (now (branches .entry)) (now (records .entry)) (now (places .entry)) (now (names .entry)) (now (slab .entry))) (now (batch .entry)) (now (answers .entry)) (batchLeft r (now (answered .exit)) (now (taken .exit)) (now (sent .exit)) (now (rows .exit)) (lent (now (head .exit)) (now (branches .exit)) (now (records .exit)) (now (places .exit)) (now (names .exit)) (now (slab .exit))) (now (answers .exit))) ⌝ }
+    ensures { λ r. ⌜ BatchDone (lent (now (head .entry)) (now (branches .entry)) (now (records .entry)) (now (places .entry)) (now (names .entry)) (now (slab .entry))) (diskOf (now (disk .entry)) (now (marks .entry))) (now (batch .entry)) (now (answers .entry)) (batchLeft r (now (answered .exit)) (now (taken .exit)) (now (sent .exit)) (now (rows .exit)) (lent (now (head .exit)) (now (branches .exit)) (now (records .exit)) (now (places .exit)) (now (names .exit)) (now (slab .exit))) (diskOf (now (disk .exit)) (now (marks .exit))) (now (answers .exit))) ⌝ }
 {
     let fit = tables::lengths_fit(
         head.len(),
@@ -290,11 +69,121 @@ pub extern "C" fn kizmoolet_batch(
         *rows = 0;
         return 1;
     }
-    let report = batch_areas(head, branches, records, places, names, slab, batch, answers);
+    let report = batch_areas::batch_areas(
+        head,
+        branches,
+        records,
+        places,
+        names,
+        slab,
+        disk,
+        marks,
+        batch,
+        answers,
+    );
     let done = report.done;
     *answered = done.answered as u64;
     *taken = done.taken as u64;
     *sent = done.sent as u64;
     *rows = report.rows as u64;
     done.stop
+}
+
+// A live read: where the page of an address lies, as it is at now; the result is the refusal, or 0. Always written: the area that the
+// page is a part of (0 no page, 1 the live disk, 2 the slab), and the offset of its 256 bytes there.
+#[no_mangle]
+pub extern "C" fn kizmoolet_live_read(
+    head: &[u8],
+    branches: &[u8],
+    records: &[u8],
+    places: &[u8],
+    names: &[u8],
+    slab: &[u8],
+    disk: &[u8],
+    marks: &[u8],
+    address: u32,
+    area: &mut u32,
+    offset: &mut u64,
+) -> u32
+    ensures { λ r. ⌜ Tells (liveReadBytes (lent (now (head .entry)) (now (branches .entry)) (now (records .entry)) (now (places .entry)) (now (names .entry)) (now (slab .entry))) (diskOf (now (disk .entry)) (now (marks .entry))) address) r (now (area .exit)) (now (offset .exit)) ⌝ }
+{
+    *area = 0;
+    *offset = 0;
+    let fit = tables::lengths_fit(
+        head.len(),
+        branches.len(),
+        records.len(),
+        places.len(),
+        names.len(),
+    );
+    if !fit {
+        return 1;
+    }
+    let located = live_areas::locate_areas(
+        head,
+        branches,
+        records,
+        places,
+        names,
+        slab,
+        disk,
+        marks,
+        address,
+    );
+    let spot = located.spot;
+    match spot {
+        Spot::Nowhere => located.refusal,
+        Spot::OnDisk(at) => {
+            *area = 1;
+            *offset = at as u64;
+            located.refusal
+        }
+        Spot::InSlab(at) => {
+            *area = 2;
+            *offset = at as u64;
+            located.refusal
+        }
+    }
+}
+
+// A copying step with this budget; the result is the refusal, or 0. Always written: how many pages it copied.
+#[no_mangle]
+pub extern "C" fn kizmoolet_copy_step(
+    head: &[u8],
+    branches: &[u8],
+    records: &[u8],
+    places: &[u8],
+    names: &[u8],
+    slab: &[u8],
+    disk: &mut [u8],
+    marks: &mut [u8],
+    budget: u32,
+    copied: &mut u64,
+) -> u32
+    ensures { λ r. ⌜ Copies (copyBytes (lent (now (head .entry)) (now (branches .entry)) (now (records .entry)) (now (places .entry)) (now (names .entry)) (now (slab .entry))) (diskOf (now (disk .entry)) (now (marks .entry))) budget) (diskOf (now (disk .entry)) (now (marks .entry))) (record { refusal = r; count = now (copied .exit) }) (diskOf (now (disk .exit)) (now (marks .exit))) ⌝ }
+{
+    let fit = tables::lengths_fit(
+        head.len(),
+        branches.len(),
+        records.len(),
+        places.len(),
+        names.len(),
+    );
+    if !fit {
+        *copied = 0;
+        return 1;
+    }
+    let done = live_areas::step_areas(
+        head,
+        branches,
+        records,
+        places,
+        names,
+        slab,
+        disk,
+        marks,
+        budget,
+    );
+    *copied = done.count as u64;
+    done.refusal
 }

@@ -14,10 +14,11 @@ use Rattle.model.specs.declared.Head.{Head}
 use Rattle.model.specs.declared.Branch.{Branch}
 use Rattle.model.specs.Store.{Store}
 use Rattle.model.specs.Soundness.{sizesAllowed, inRange, tableCheck, between}
-use Rattle.model.specs.Batch.{Run, batch, ended}
+use Rattle.model.specs.Batch.{Run, ended}
 use Rattle.model.specs.Fresh.{freshCheck, madeFresh}
 use Rattle.model.proofs.Base.{case, and→}
 use Rattle.model.proofs.RowsRead.{rows-tell}
+use Rattle.live.specs.Live.{LiveDisk, LiveRun, liveCheck, liveBatch}
 use Rattle.rows.specs.Rows.{branchWidth, branchRowsOf, recordRowsOf, nameRowsOf, BranchesIn}
 use Rattle.rows.specs.View.{Tables, tables, storeOf, laid}
 use Rattle.rows.proofs.Laws.{branch-kind, record-kind, name-kind, relaid-own}
@@ -67,9 +68,13 @@ module _ (n : ℕ) (t : List ℕ) (fits : BranchesIn n t) where
     front-store : (head : Head) → storeOf head T ≡ lentStore head L
     front-store head = ap (λ (r : List Branch). lentStore head (lent r rt pt nt slab)) (front-rows branch-kind n t fits)
 
-    batch-front : (head : Head) (input : List ℕ) (space : ℕ) → batchOf head T input space ≡ lentBatch head L input space
+    batch-front : (head : Head) (d : LiveDisk) (input : List ℕ) (space : ℕ) → batchOf head T d input space ≡ lentBatch head L d input space
     unfolding batchOf lentBatch
-    batch-front head input space = rw (front-whole, front-store head)
+    batch-front head d input space = rw (front-whole, front-store head)
+
+    -- the live disk is that behind the batch on the rows
+    pub disk-front : (head : Head) (d : LiveDisk) (input : List ℕ) (space : ℕ) → batchOf head T d input space .disk ≡ lentBatch head L d input space .disk
+    disk-front head d input space = ap (λ (r : LiveRun). r .disk) (batch-front head d input space)
 
     -- the rows read are those of the batch on the rows
     pub read-front : (head : Head) → readOf head T ≡ lentRead head L
@@ -108,12 +113,12 @@ module _ (n : ℕ) (t : List ℕ) (fits : BranchesIn n t) where
           λ i. record { branches = b i; records = e i .records; places = e i .places; names = e i .names; slab = e i .slab }
 
       -- the core's batch on the rows' numbers is the batch on the rows
-      pub batch-back : (head : Head) (input area : List ℕ) {d : Done} {rows : ℕ} {rt′ pt′ nt′ slab′ area′ : List ℕ}
-          → CoreLeaves (batchOf head T input (length area)) T area d (tables u rt′ pt′ nt′ slab′) area′
-          → BatchLeaves (lentBatch head L input (length area)) L area (record { stop = d .stop; answered = d .answered; taken = d .taken; sent = d .sent; rows = rows }) (d .head) (lent (take n (branchRowsOf (u ++ rest))) rt′ pt′ nt′ slab′) area′
-      batch-back head input area l =
-          let run : Run = batchOf head T input (length area) in
-          rw (sym (batch-front head input (length area)))
+      pub batch-back : (head : Head) (disk : LiveDisk) (input area : List ℕ) {d : Done} {rows : ℕ} {rt′ pt′ nt′ slab′ area′ : List ℕ}
+          → CoreLeaves (batchOf head T disk input (length area) .run) T area d (tables u rt′ pt′ nt′ slab′) area′
+          → BatchLeaves (lentBatch head L disk input (length area) .run) L area (record { stop = d .stop; answered = d .answered; taken = d .taken; sent = d .sent; rows = rows }) (d .head) (lent (take n (branchRowsOf (u ++ rest))) rt′ pt′ nt′ slab′) area′
+      batch-back head disk input area l =
+          let run : Run = batchOf head T disk input (length area) .run in
+          rw (sym (batch-front head disk input (length area)))
           (record {
             stop = l .stop;
             answered = l .answered;
@@ -155,18 +160,22 @@ module _ (head : Head) (l : Lent) (many : 4096 < length (l .branches)) where
       over (head .size) (length (recordRowsOf (l .records))) (length (l .places)) (length (nameRowsOf (l .names))) (length (l .slab)) in
       rw e
 
-  many-batch : (input : List ℕ) (space : ℕ) → lentBatch head l input space ≡ ended S 1
-  unfolding lentBatch batch
-  many-batch input space = case (wholeOthers l) (λ w. rw (w, many-check)) (λ w. rw w)
+  many-batch : (d : LiveDisk) (input : List ℕ) (space : ℕ) → lentBatch head l d input space ≡ record { run = ended S 1; disk = d }
+  unfolding lentBatch liveBatch liveCheck
+  many-batch d input space = case (wholeOthers l) (λ w. rw (w, many-check)) (λ w. rw w)
+
+  -- the live disk stays
+  pub many-disk : (d : LiveDisk) (input : List ℕ) (space : ℕ) → d ≡ lentBatch head l d input space .disk
+  many-disk d input space = ap (λ (r : LiveRun). r .disk) (sym (many-batch d input space))
 
   -- no record row is read
   pub many-read : 0 ≡ lentRead head l
   unfolding lentRead
   many-read = case (wholeOthers l) (λ w. rw (w, rows-tell S .unread (inl many-check))) (λ w. rw w)
 
-  pub many-batch-leaves : (input area : List ℕ) → BatchLeaves (lentBatch head l input (length area)) l area (record { stop = 1; answered = 0; taken = 0; sent = 0; rows = 0 }) head l area
-  many-batch-leaves input area =
-      rw (many-batch input (length area))
+  pub many-batch-leaves : (d : LiveDisk) (input area : List ℕ) → BatchLeaves (lentBatch head l d input (length area) .run) l area (record { stop = 1; answered = 0; taken = 0; sent = 0; rows = 0 }) head l area
+  many-batch-leaves d input area =
+      rw (many-batch d input (length area))
       (record { stop = refl; answered = refl; taken = refl; sent = refl; head = refl; tables = laid-itself head l; answers = refl })
 
   many-refusal : (size : ℕ) → 1 ≡ lentRefusal head l size

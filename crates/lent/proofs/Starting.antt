@@ -11,6 +11,7 @@ use Rattle.model.specs.Soundness.{sizesAllowed}
 use Rattle.model.specs.Batch.{Run}
 use Rattle.model.specs.Fresh.{fresh, madeFresh}
 use Rattle.model.proofs.Base.{case}
+use Rattle.live.specs.Live.{LiveDisk, LiveRun}
 use Rattle.rows.specs.Rows.{recordWidth, recordRowsOf, recordTable, RecordsLaid, nameWidth, nameRowsOf, nameTable, NamesLaid}
 use Rattle.rows.proofs.Laws.{record-kind, name-kind}
 use Rattle.rows.proofs.Relaid.{laid-rows, laid-over}
@@ -59,22 +60,26 @@ module _ (size : ℕ) (l : Lent) (r : ℕ) (h₁ : Head) (l₁ : Lent) (same : l
   whole-made : wholeOthers l₁ ≡ wholeOthers l
   whole-made = ap₂ (λ (n k : ℕ). eqb (n % recordWidth) 0 && eqb (k % nameWidth) 0) same same-names
 
-  batch-made : (input : List ℕ) (space : ℕ) → lentBatch h₁ l₁ input space ≡ freshBatch size l input space
+  batch-made : (d : LiveDisk) (input : List ℕ) (space : ℕ) → lentBatch h₁ l₁ d input space ≡ freshBatch size l d input space
   unfolding lentBatch freshBatch
-  batch-made input space = rw (whole-made, store-made)
+  batch-made d input space = rw (whole-made, store-made)
+
+  -- the live disk behind it
+  pub disk-made : (d : LiveDisk) (input : List ℕ) (space : ℕ) {d₂ : LiveDisk} → d₂ ≡ lentBatch h₁ l₁ d input space .disk → d₂ ≡ freshBatch size l d input space .disk
+  disk-made d input space e = e ∙ ap (λ (r : LiveRun). r .disk) (batch-made d input space)
 
   pub read-made : lentRead h₁ l₁ ≡ freshRead size l
   unfolding lentRead freshRead
   read-made = rw (whole-made, store-made)
 
   -- and what is laid over it is laid over l
-  pub then-batch : (input area : List ℕ) (q : Report) (h₂ : Head) (l₂ : Lent) (area₂ : List ℕ) → BatchLeaves (lentBatch h₁ l₁ input (length area)) l₁ area q h₂ l₂ area₂
-      → BatchLeaves (freshBatch size l input (length area)) l area q h₂ (lent (freshBatch size l input (length area) .store .branchRows) (l₂ .records) (l₂ .places) (l₂ .names) (l₂ .slab)) area₂
-  then-batch input area q h₂ l₂ area₂ x =
-      let run : Run = lentBatch h₁ l₁ input (length area) in
+  pub then-batch : (d : LiveDisk) (input area : List ℕ) (q : Report) (h₂ : Head) (l₂ : Lent) (area₂ : List ℕ) → BatchLeaves (lentBatch h₁ l₁ d input (length area) .run) l₁ area q h₂ l₂ area₂
+      → BatchLeaves (freshBatch size l d input (length area) .run) l area q h₂ (lent (freshBatch size l d input (length area) .run .store .branchRows) (l₂ .records) (l₂ .places) (l₂ .names) (l₂ .slab)) area₂
+  then-batch d input area q h₂ l₂ area₂ x =
+      let run : Run = lentBatch h₁ l₁ d input (length area) .run in
       let er : l₂ .records ≡ recordTable (run .store .recordRows) (l .records) = ap (λ (y : Lent). y .records) (x .tables) ∙ laid-over record-kind laid same (run .store .recordRows) in
       let en : l₂ .names ≡ nameTable (run .store .nameRows) (l .names) = ap (λ (y : Lent). y .names) (x .tables) ∙ laid-over name-kind laid-names same-names (run .store .nameRows) in
-      rw (sym (batch-made input (length area)))
+      rw (sym (batch-made d input (length area)))
       (record {
         stop = x .stop;
         answered = x .answered;

@@ -9,8 +9,9 @@ use Rattle.model.specs.declared.Head.{Head}
 use Rattle.model.specs.declared.Branch.{Branch}
 use Rattle.model.specs.Store.{Store, zero-branch}
 use Rattle.model.specs.Soundness.{rowsRead}
-use Rattle.model.specs.Batch.{Run, batch, ended, answeredCount, requestCount, answerCount, areaAfter}
+use Rattle.model.specs.Batch.{Run, ended, answeredCount, requestCount, answerCount, areaAfter}
 use Rattle.model.specs.Fresh.{freshCheck, madeFresh}
+use Rattle.live.specs.Live.{LiveDisk, LiveRun, liveBatch}
 use Rattle.rows.specs.Rows.{recordWidth, recordRowsOf, recordTable, nameWidth, nameRowsOf, nameTable}
 use Rattle.lent.specs.declared.Report.{Report}
 
@@ -46,9 +47,10 @@ laidOver s l =
 abbrev pub wholeOthers : Lent → Bool
 wholeOthers l = eqb (length (l .records) % recordWidth) 0 && eqb (length (l .names) % nameWidth) 0
 
--- the model's batch on what is lent; a record or name table that is no whole number of rows is refusal 1
-unfoldable pub lentBatch : Head → Lent → List ℕ → ℕ → Run
-lentBatch head l input space = cond (wholeOthers l) (batch (lentStore head l) input space) (ended (lentStore head l) 1)
+-- the model's batch on what is lent, and the live disk behind it; a record or name table that is no whole number of rows is refusal 1
+unfoldable pub lentBatch : Head → Lent → LiveDisk → List ℕ → ℕ → LiveRun
+lentBatch head l d input space =
+    cond (wholeOthers l) (liveBatch (record { store = lentStore head l; disk = d }) input space) (record { run = ended (lentStore head l) 1; disk = d })
 
 -- how many record rows its table checks read: none where the record or the name table is no whole number of rows
 unfoldable pub lentRead : Head → Lent → ℕ
@@ -86,9 +88,10 @@ zeroRows = lent (replicate 16 zero-branch)
 abbrev pub freshStart : ℕ → Lent → Store
 freshStart size l = lentFresh (record { size = 0; branches = 0; records = 0; now = 0; floor = 0; names = 0 }) l size
 
--- the model's batch on that store; a record or name table that is no whole number of rows is refusal 1
-unfoldable pub freshBatch : ℕ → Lent → List ℕ → ℕ → Run
-freshBatch size l input space = cond (wholeOthers l) (batch (freshStart size l) input space) (ended (freshStart size l) 1)
+-- the model's batch on that store, and the live disk behind it; a record or name table that is no whole number of rows is refusal 1
+unfoldable pub freshBatch : ℕ → Lent → LiveDisk → List ℕ → ℕ → LiveRun
+freshBatch size l d input space =
+    cond (wholeOthers l) (liveBatch (record { store = freshStart size l; disk = d }) input space) (record { run = ended (freshStart size l) 1; disk = d })
 
 -- how many record rows its table checks read
 unfoldable pub freshRead : ℕ → Lent → ℕ

@@ -7,6 +7,7 @@ ghost use mathlib.Core.List.{_++_};
 ghost use Prim.Native.Nat.{_*_, _<_};
 ghost use lib.ListN.{length, getD, set, take, drop};
 ghost use Rattle.model.specs.Store.{zero-branch};
+ghost use Rattle.live.specs.Live.{diskOf};
 ghost use Rattle.rows.specs.Rows.{flat, branchWidth, branchFields, branchRowsOf, BranchesIn};
 ghost use Rattle.lent.specs.Lent.{lent, lentBatch, lentRead, BatchLeaves, FreshLeaves, zeroRows, freshBatch, freshRead};
 
@@ -80,15 +81,29 @@ pub fn batch_rows(
     pt: &mut [u32],
     nt: &mut [u32],
     slab: &mut [u8],
+    disk: &mut [u8],
+    marks: &mut [u8],
     input: &[u8],
     answers: &mut [u8],
 ) -> Ended
     requires { ⌜ BranchesIn count (now table) ⌝ }
-    ensures { λ r. ⌜ (drop (count * branchWidth) (now (table .exit)) ≡ drop (count * branchWidth) (now (table .entry))) × BatchLeaves (lentBatch head (lent (take count (branchRowsOf (now (table .entry)))) (now (rt .entry)) (now (pt .entry)) (now (nt .entry)) (now (slab .entry))) (now (input .entry)) (length (now (answers .entry)))) (lent (take count (branchRowsOf (now (table .entry)))) (now (rt .entry)) (now (pt .entry)) (now (nt .entry)) (now (slab .entry))) (now (answers .entry)) (r .report) (r .head) (lent (take count (branchRowsOf (now (table .exit)))) (now (rt .exit)) (now (pt .exit)) (now (nt .exit)) (now (slab .exit))) (now (answers .exit)) ⌝ }
+    ensures { λ r. ⌜ (drop (count * branchWidth) (now (table .exit)) ≡ drop (count * branchWidth) (now (table .entry))) × BatchLeaves (lentBatch head (lent (take count (branchRowsOf (now (table .entry)))) (now (rt .entry)) (now (pt .entry)) (now (nt .entry)) (now (slab .entry))) (diskOf (now (disk .entry)) (now (marks .entry))) (now (input .entry)) (length (now (answers .entry))) .run) (lent (take count (branchRowsOf (now (table .entry)))) (now (rt .entry)) (now (pt .entry)) (now (nt .entry)) (now (slab .entry))) (now (answers .entry)) (r .report) (r .head) (lent (take count (branchRowsOf (now (table .exit)))) (now (rt .exit)) (now (pt .exit)) (now (nt .exit)) (now (slab .exit))) (now (answers .exit)) ⌝ }
+    ensures { λ _. ⌜ diskOf (now (disk .exit)) (now (marks .exit)) ≡ lentBatch head (lent (take count (branchRowsOf (now (table .entry)))) (now (rt .entry)) (now (pt .entry)) (now (nt .entry)) (now (slab .entry))) (diskOf (now (disk .entry)) (now (marks .entry))) (now (input .entry)) (length (now (answers .entry))) .disk ⌝ }
     ensures { λ r. ⌜ r .report .rows ≡ lentRead head (lent (take count (branchRowsOf (now (table .entry)))) (now (rt .entry)) (now (pt .entry)) (now (nt .entry)) (now (slab .entry))) ⌝ }
 {
     let end = count * rows::BRANCH_WIDTH;
-    let batched = batch::batch(head, &mut table[..end], rt, pt, nt, slab, input, answers);
+    let batched = batch::batch(
+        head,
+        &mut table[..end],
+        rt,
+        pt,
+        nt,
+        slab,
+        disk,
+        marks,
+        input,
+        answers,
+    );
     let done = batched.done;
     let after = done.head;
     Ended {
@@ -129,10 +144,13 @@ pub fn run_batch(
     pt: &mut [u32],
     nt: &mut [u32],
     slab: &mut [u8],
+    disk: &mut [u8],
+    marks: &mut [u8],
     input: &[u8],
     answers: &mut [u8],
 ) -> Report
-    ensures { λ r. ⌜ BatchLeaves (lentBatch (now (head .entry)) (lent (now (branches .entry)) (now (rt .entry)) (now (pt .entry)) (now (nt .entry)) (now (slab .entry))) (now (input .entry)) (length (now (answers .entry)))) (lent (now (branches .entry)) (now (rt .entry)) (now (pt .entry)) (now (nt .entry)) (now (slab .entry))) (now (answers .entry)) r (now (head .exit)) (lent (now (branches .exit)) (now (rt .exit)) (now (pt .exit)) (now (nt .exit)) (now (slab .exit))) (now (answers .exit)) ⌝ }
+    ensures { λ r. ⌜ BatchLeaves (lentBatch (now (head .entry)) (lent (now (branches .entry)) (now (rt .entry)) (now (pt .entry)) (now (nt .entry)) (now (slab .entry))) (diskOf (now (disk .entry)) (now (marks .entry))) (now (input .entry)) (length (now (answers .entry))) .run) (lent (now (branches .entry)) (now (rt .entry)) (now (pt .entry)) (now (nt .entry)) (now (slab .entry))) (now (answers .entry)) r (now (head .exit)) (lent (now (branches .exit)) (now (rt .exit)) (now (pt .exit)) (now (nt .exit)) (now (slab .exit))) (now (answers .exit)) ⌝ }
+    ensures { λ _. ⌜ diskOf (now (disk .exit)) (now (marks .exit)) ≡ lentBatch (now (head .entry)) (lent (now (branches .entry)) (now (rt .entry)) (now (pt .entry)) (now (nt .entry)) (now (slab .entry))) (diskOf (now (disk .entry)) (now (marks .entry))) (now (input .entry)) (length (now (answers .entry))) .disk ⌝ }
     ensures { λ r. ⌜ r .rows ≡ lentRead (now (head .entry)) (lent (now (branches .entry)) (now (rt .entry)) (now (pt .entry)) (now (nt .entry)) (now (slab .entry))) ⌝ }
 {
     if MOST_ROWS < branches.len() {
@@ -154,6 +172,8 @@ pub fn run_batch(
         pt,
         nt,
         slab,
+        disk,
+        marks,
         input,
         answers,
     );
@@ -192,10 +212,13 @@ pub fn fresh_batch(
     pt: &mut [u32],
     nt: &mut [u32],
     slab: &mut [u8],
+    disk: &mut [u8],
+    marks: &mut [u8],
     input: &[u8],
     answers: &mut [u8],
 ) -> Ended
-    ensures { λ r. ⌜ BatchLeaves (freshBatch size (zeroRows (now (rt .entry)) (now (pt .entry)) (now (nt .entry)) (now (slab .entry))) (now (input .entry)) (length (now (answers .entry)))) (zeroRows (now (rt .entry)) (now (pt .entry)) (now (nt .entry)) (now (slab .entry))) (now (answers .entry)) (r .report) (r .head) (lent (freshBatch size (zeroRows (now (rt .entry)) (now (pt .entry)) (now (nt .entry)) (now (slab .entry))) (now (input .entry)) (length (now (answers .entry))) .store .branchRows) (now (rt .exit)) (now (pt .exit)) (now (nt .exit)) (now (slab .exit))) (now (answers .exit)) ⌝ }
+    ensures { λ r. ⌜ BatchLeaves (freshBatch size (zeroRows (now (rt .entry)) (now (pt .entry)) (now (nt .entry)) (now (slab .entry))) (diskOf (now (disk .entry)) (now (marks .entry))) (now (input .entry)) (length (now (answers .entry))) .run) (zeroRows (now (rt .entry)) (now (pt .entry)) (now (nt .entry)) (now (slab .entry))) (now (answers .entry)) (r .report) (r .head) (lent (freshBatch size (zeroRows (now (rt .entry)) (now (pt .entry)) (now (nt .entry)) (now (slab .entry))) (diskOf (now (disk .entry)) (now (marks .entry))) (now (input .entry)) (length (now (answers .entry))) .run .store .branchRows) (now (rt .exit)) (now (pt .exit)) (now (nt .exit)) (now (slab .exit))) (now (answers .exit)) ⌝ }
+    ensures { λ _. ⌜ diskOf (now (disk .exit)) (now (marks .exit)) ≡ freshBatch size (zeroRows (now (rt .entry)) (now (pt .entry)) (now (nt .entry)) (now (slab .entry))) (diskOf (now (disk .entry)) (now (marks .entry))) (now (input .entry)) (length (now (answers .entry))) .disk ⌝ }
     ensures { λ r. ⌜ r .report .rows ≡ freshRead size (zeroRows (now (rt .entry)) (now (pt .entry)) (now (nt .entry)) (now (slab .entry))) ⌝ }
 {
     let mut head = Head {
@@ -213,6 +236,17 @@ pub fn fresh_batch(
     };
     let mut branches = [row; 16];
     make_fresh(&mut head, size, &mut branches, rt, pt, nt, slab);
-    let report = run_batch(&mut head, &mut branches, rt, pt, nt, slab, input, answers);
+    let report = run_batch(
+        &mut head,
+        &mut branches,
+        rt,
+        pt,
+        nt,
+        slab,
+        disk,
+        marks,
+        input,
+        answers,
+    );
     Ended { head, report }
 }

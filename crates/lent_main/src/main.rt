@@ -13,6 +13,8 @@ const NAME_NUMBERS: usize = 32 * rows::NAME_WIDTH;
 
 const SLAB_BYTES: usize = 128 * 256;
 
+const DISK_BYTES: usize = 64 * 256;
+
 fn page_slab() -> [u8; SLAB_BYTES]
     ensures { λ r. ⌜ r ≡ zeros (128 * 256) ⌝ }
 {
@@ -37,6 +39,19 @@ fn name_rows() -> [u32; NAME_NUMBERS]
     [0u32; NAME_NUMBERS]
 }
 
+// The live disk, a page for each address, and its marks: every page is stale.
+fn live_disk() -> [u8; DISK_BYTES]
+    ensures { λ r. ⌜ r ≡ zeros (64 * 256) ⌝ }
+{
+    [0u8; DISK_BYTES]
+}
+
+fn page_marks() -> [u8; 64]
+    ensures { λ r. ⌜ r ≡ zeros 64 ⌝ }
+{
+    [0u8; 64]
+}
+
 // The input as one batch on a fresh store of 64 pages, 16 branches, 128 records and 128 places.
 fn session(input: &[u8], answers: &mut [u8]) -> Ended
     ensures { λ r. ⌜ Replies (now (input .entry)) (now (answers .entry)) r (now (answers .exit)) ⌝ }
@@ -45,12 +60,16 @@ fn session(input: &[u8], answers: &mut [u8]) -> Ended
     let mut places = place_rows();
     let mut names = name_rows();
     let mut slab = page_slab();
+    let mut disk = live_disk();
+    let mut marks = page_marks();
     lent::fresh_batch(
         64,
         &mut records,
         &mut places,
         &mut names,
         &mut slab,
+        &mut disk,
+        &mut marks,
         input,
         answers,
     )

@@ -1,5 +1,5 @@
 -- Each request keeps a store sound, and against the reference.
-use Prim.Native.Nat.{ℕ, suc, _≤_, _<_}
+use Prim.Native.Nat.{ℕ, suc, _+_, _*_, _≤_, _<_}
 use mathlib.Core.List.{List}
 use mathlib.Core.Option.{Option, some, none}
 use native.Mathlib.Omega.{arith}
@@ -74,16 +74,20 @@ written-answers s a page none =
     free-answers none = refused-answers s 6 (omega arith)
     free-answers (some p) = accepted-answers s _ _
 
--- the page found is that of a counted record, up to the moment asked, whose place is in the place table
-found-page : (s : Store) → Sound s → (a t : ℕ) (o : Option Record) → lookup s a t ≡ o
-    → WholePage (foundPage (s .slab) o) × DatedUpTo t (foundPage (s .slab) o)
+-- the record found is a counted one, up to the moment asked
+found-counted : (s : Store) → Sound s → (a t : ℕ) (r : Record) → lookup s a t ≡ some r → Found (records s) a t (newest s) r
 unfolding lookup
+found-counted s h a t r e = find→ (records s) a (newest s) (rows-falls _ _ (newest s) (h .rows)) t r e
+
+-- its place is in the place table, so that its page is in the slab
+pub found-inside : (s : Store) → Sound s → (a t : ℕ) (r : Record) → lookup s a t ≡ some r → 256 * r .place + 256 ≤ length (s .slab)
+found-inside s h a t r e =
+    omega (arith, named-mem (s .placeRows) 1 (records s) r (h .named) (found-counted s h a t r e .counted), h .sizes .allowed .slab)
+
+pub found-page : (s : Store) → Sound s → (a t : ℕ) (o : Option Record) → lookup s a t ≡ o
+    → WholePage (foundPage (s .slab) o) × DatedUpTo t (foundPage (s .slab) o)
 found-page s h a t none e = (tt, tt)
-found-page s h a t (some r) e =
-    let d : Found (records s) a t (newest s) r = find→ (records s) a (newest s) (rows-falls _ _ (newest s) (h .rows)) t r e in (
-      length-page (s .slab) (r .place) (omega (arith, named-mem (s .placeRows) 1 (records s) r (h .named) (d .counted), h .sizes .allowed .slab)),
-      d .upTo,
-    )
+found-page s h a t (some r) e = (length-page (s .slab) (r .place) (found-inside s h a t r e), found-counted s h a t r e .upTo)
 
 pub step-answers : (s : Store) (q : Request) → Sound s → Answers s (step s q)
 unfolding step doWrite doMark doRevert doRead doReclaim

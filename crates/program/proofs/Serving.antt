@@ -2,17 +2,21 @@
 use mathlib.Core.Path.{_≡_, refl, sym, ap, _∙_}
 use mathlib.Core.List.{List, [], _∷_, _++_, append-assoc}
 use mathlib.Core.Bool.{true}
-use Prim.Native.Nat.{ℕ, suc, _+_, _-_, _≤_, _<_}
+use Prim.Native.Nat.{ℕ, suc, _+_, _*_, _-_, _≤_, _<_}
 use native.Mathlib.Numerals.{add-one}
 use native.Mathlib.Omega.{arith}
 use lib.ListN.{length, getD, set, take, drop, length-append, take-append-drop}
 use lib.Seq.{length-take-le, drop-append-le, drop-cons, set-at}
 use Rattle.model.specs.declared.Head.{Head}
 use Rattle.model.specs.Store.{Store}
-use Rattle.model.specs.Fresh.{programStore}
+use Rattle.model.specs.Fresh.{fresh, programStore}
 use Rattle.model.specs.Batch.{Run, batch}
+use Rattle.live.specs.Live.{LiveDisk, diskOf, marksSmall}
+use Rattle.live.specs.Fit.{Sized}
+use Rattle.live.proofs.LiveDemand.{sized-run}
+use Rattle.rows.specs.Rows.{zeros}
 use Rattle.rows.specs.View.{Tables, tables, storeOf}
-use Rattle.rows.proofs.Laws.{branch-count, record-count}
+use Rattle.rows.proofs.Laws.{branch-count, record-count, length-zeros}
 use Rattle.rows.proofs.View.{SameLengths, laid-on}
 use Rattle.soundness.specs.Check.{wholeTables, allowedIn}
 use Rattle.soundness.proofs.Sizes.{→lengths, →whole}
@@ -58,33 +62,42 @@ module _ {t : Tables} (l : TableLengths t) where
     whole : wholeTables t′ ≡ true
     whole = →whole t′ (record { branches = omega (arith, k .branches, l .branches); records = omega (arith, k .records, l .records); names = omega (arith, k .names, l .names) })
 
-    run-is : (input : List ℕ) (space : ℕ) → batchOf (r .head) t′ input space ≡ batch (programStore (t .slab)) input space
-    unfolding batchOf
-    run-is input space = rw (whole, started)
+    module _ {d : LiveDisk} (z : Sized 64 d) where
+      run-is : (input : List ℕ) (space : ℕ) → batchOf (r .head) t′ d input space .run ≡ batch (programStore (t .slab)) input space
+      unfolding batchOf fresh
+      run-is input space = rw (whole, started) (sized-run (record { store = programStore (t .slab); disk = d }) z input space)
 
-    -- what the batch on the tables leaves is what the model's batch on the fresh store says
-    pub leaves : (input : List ℕ) {area area′ : List ℕ} {t″ : Tables} {done : Done} → BatchLeaves (batchOf (r .head) t′ input (length area)) t′ area done t″ area′
-        → BatchLeaves (batch (programStore (t .slab)) input (length area)) t area done t″ area′
-    leaves input {area} {area′} {t″} {done} v =
-        let run : Run = batch (programStore (t .slab)) input (length area) in
-        let w : BatchLeaves run t′ area done t″ area′ = rw (run-is input (length area)) at v in
-        record {
-          stop = w .stop;
-          answered = w .answered;
-          taken = w .taken;
-          sent = w .sent;
-          head = w .head;
-          tables = w .tables ∙ laid-on (freshOf head t 64) (f .tables) k (run .store);
-          answers = w .answers;
-        }
+      -- what the batch on the tables leaves is what the model's batch on the fresh store says
+      pub leaves : (input : List ℕ) {area area′ : List ℕ} {t″ : Tables} {done : Done} → BatchLeaves (batchOf (r .head) t′ d input (length area) .run) t′ area done t″ area′
+          → BatchLeaves (batch (programStore (t .slab)) input (length area)) t area done t″ area′
+      leaves input {area} {area′} {t″} {done} v =
+          let run : Run = batch (programStore (t .slab)) input (length area) in
+          let w : BatchLeaves run t′ area done t″ area′ = rw (run-is input (length area)) at v in
+          record {
+            stop = w .stop;
+            answered = w .answered;
+            taken = w .taken;
+            sent = w .sent;
+            head = w .head;
+            tables = w .tables ∙ laid-on (freshOf head t 64) (f .tables) k (run .store);
+            answers = w .answers;
+          }
+
+-- the program's live disk is one of 64 pages
+no-marks : marksSmall (zeros 64) ≡ true
+unfolding marksSmall zeros
+no-marks = refl
+
+pub stale-sized : {bytes marks : List ℕ} → bytes ≡ zeros (64 * 256) → marks ≡ zeros 64 → Sized 64 (diskOf bytes marks)
+stale-sized e m = record { bytes = ap length e ∙ length-zeros (64 * 256); marks = ap length m ∙ length-zeros 64; small = ap marksSmall m ∙ no-marks }
 
 -- what a batch leaves, as what goes out; the stop number fits a byte
 module _ (s : Store) (input : List ℕ) {area area′ : List ℕ} {t t′ : Tables} {done : Done} (v : BatchLeaves (batch s input (length area)) t area done t′ area′) where
   pub stop-byte : done .stop ≤ 14
   stop-byte = rw (v .stop) (batch-small s input (length area))
 
-  pub sends : Sends (batch s input (length area)) area (record { sent = done .sent; stop = done .stop }) area′
-  sends = record { sent = v .sent; stop = v .stop; answers = v .answers }
+  pub sends : {s′ : Store} → s ≡ s′ → Sends (batch s′ input (length area)) area (record { sent = done .sent; stop = done .stop }) area′
+  sends e = rw (sym e) (record { sent = v .sent; stop = v .stop; answers = v .answers })
 
 -- the stop number put behind the answers
 module _ (input out : List ℕ) (some : 0 < length out) where

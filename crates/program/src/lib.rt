@@ -7,6 +7,8 @@ ghost use Prim.Native.Nat.{_*_};
 ghost use lib.ListN.{length};
 ghost use Rattle.model.specs.Fresh.{programStore};
 ghost use Rattle.model.specs.Batch.{batch};
+ghost use Rattle.live.specs.Live.{diskOf};
+ghost use Rattle.live.specs.Fit.{Sized};
 ghost use Rattle.rows.specs.Rows.{zeros, branchWidth, recordWidth};
 ghost use Rattle.rows.specs.View.{tables};
 ghost use Rattle.batch.specs.Batch.{BatchLeaves};
@@ -21,6 +23,9 @@ const NAME_NUMBERS: usize = 32 * rows::NAME_WIDTH;
 
 const SLAB_BYTES: usize = 128 * 256;
 
+// Its live disk: a page for each of 64 addresses.
+const DISK_BYTES: usize = 64 * 256;
+
 // An answer area of 65,536 bytes, and the stop number.
 const OUTPUT_BYTES: usize = 65536 + 1;
 
@@ -28,6 +33,19 @@ fn page_slab() -> [u8; SLAB_BYTES]
     ensures { λ r. ⌜ r ≡ zeros (128 * 256) ⌝ }
 {
     [0u8; SLAB_BYTES]
+}
+
+fn live_disk() -> [u8; DISK_BYTES]
+    ensures { λ r. ⌜ r ≡ zeros (64 * 256) ⌝ }
+{
+    [0u8; DISK_BYTES]
+}
+
+// Every page of it is stale.
+fn page_marks() -> [u8; 64]
+    ensures { λ r. ⌜ r ≡ zeros 64 ⌝ }
+{
+    [0u8; 64]
 }
 
 fn record_rows() -> [u32; RECORD_NUMBERS]
@@ -48,17 +66,20 @@ fn output_area() -> [u8; OUTPUT_BYTES]
     [0u8; OUTPUT_BYTES]
 }
 
-// A fresh store of 64 pages over tables of the program's lengths, and the input as one batch for it.
+// A fresh store of 64 pages over tables of the program's lengths, and the input as one batch for it, with a live disk of 64 pages.
 fn serve_fresh(
     bt: &mut [u32],
     rt: &mut [u32],
     pt: &mut [u32],
     nt: &mut [u32],
     slab: &mut [u8],
+    disk: &mut [u8],
+    marks: &mut [u8],
     input: &[u8],
     answers: &mut [u8],
 ) -> Done
     requires { ⌜ TableLengths (tables (now bt) (now rt) (now pt) (now nt) (now slab)) ⌝ }
+    requires { ⌜ Sized 64 (diskOf (now disk) (now marks)) ⌝ }
     ensures { λ r. ⌜ BatchLeaves (batch (programStore (now (slab .entry))) (now (input .entry)) (length (now (answers .entry)))) (tables (now (bt .entry)) (now (rt .entry)) (now (pt .entry)) (now (nt .entry)) (now (slab .entry))) (now (answers .entry)) r (tables (now (bt .exit)) (now (rt .exit)) (now (pt .exit)) (now (nt .exit)) (now (slab .exit))) (now (answers .exit)) ⌝ }
 {
     let none = Head {
@@ -71,7 +92,7 @@ fn serve_fresh(
     };
     let made = fresh::make(none, 64, bt, rt, pt, nt, slab);
     let head = made.head;
-    batch::batch(head, bt, rt, pt, nt, slab, input, answers).done
+    batch::batch(head, bt, rt, pt, nt, slab, disk, marks, input, answers).done
 }
 
 // What goes out: how many bytes the answers have, and the stop number.
@@ -80,7 +101,7 @@ struct Reply {
     stop: u8,
 }
 
-// The tables and the slab are the program's own: the place table starts with 128 free rows.
+// The tables, the slab and the live disk are the program's own: the place table starts with 128 free rows.
 fn serve(input: &[u8], answers: &mut [u8]) -> Reply
     ensures { λ r. ⌜ Sends (batch atStart (now (input .entry)) (length (now (answers .entry)))) (now (answers .entry)) r (now (answers .exit)) ⌝ }
 {
@@ -89,12 +110,16 @@ fn serve(input: &[u8], answers: &mut [u8]) -> Reply
     let mut places = [0; 128];
     let mut names = [0; NAME_NUMBERS];
     let mut slab = page_slab();
+    let mut disk = live_disk();
+    let mut marks = page_marks();
     let done = serve_fresh(
         &mut branches,
         &mut records,
         &mut places,
         &mut names,
         &mut slab,
+        &mut disk,
+        &mut marks,
         input,
         answers,
     );

@@ -61,3 +61,19 @@ pub(crate) fn differing_bytes(s: &[u8], t: &[u8]) -> u32 {
     }
     count
 }
+
+// What a live read gave: its page, its refusal, and 1 where there is a page, 2 where the part is neither a page nor empty.
+pub(crate) fn note_read(page: &[u8], refusal: u32, area: &mut [u8]) {
+    let n = page.len();
+    copy_bytes(page, area);
+    if area.len() > 257 {
+        area[256] = (refusal % 256) as u8;
+        area[257] = if n == 256 {
+            1
+        } else if n == 0 {
+            0
+        } else {
+            2
+        };
+    }
+}

@@ -1,13 +1,16 @@
-// Changes of a store before a batch: of one number of the head, of the lengths lent, or of a table; or two records in each other's row.
+// Changes of a store before a batch: of one number of the head, of the lengths lent, of a table, or a mark; or two records in each other's
+// row. With every fifth change a mark is wrong besides, which is to be refused only where nothing else is.
 use crate::faults::swap;
 use trial_words::layout::BRANCH_LENGTH;
 use trial_words::layout::BRANCH_ROWS;
 use trial_words::layout::BRANCH_TABLE;
 use trial_words::layout::CHANGE;
 use trial_words::layout::CHANGES;
+use trial_words::layout::DISK_LENGTH;
 use trial_words::layout::HEAD;
 use trial_words::layout::HEAD_NOW;
 use trial_words::layout::LAST;
+use trial_words::layout::MARK_TABLE;
 use trial_words::layout::NAME_TABLE;
 use trial_words::layout::Numbers;
 use trial_words::layout::PLACE_ROWS;
@@ -15,7 +18,9 @@ use trial_words::layout::PLACE_TABLE;
 use trial_words::layout::RECORD_ROWS;
 use trial_words::layout::RECORD_TABLE;
 use trial_words::layout::REPLACED;
+use trial_words::layout::SIZE;
 use trial_words::layout::record_row;
+use trial_words::words::add;
 use trial_words::words::get;
 use trial_words::words::minus;
 use trial_words::words::number_at;
@@ -35,10 +40,11 @@ fn record_numbers(w: &Numbers) -> u32 {
 // The numbers of the first three name rows.
 const FIRST_NAMES: u32 = 9;
 
-// Each of the numbers takes eight values.
+// Each of the numbers takes eight values. The last are the two lengths of the live disk, and its marks.
 fn replacements(w: &Numbers) -> u32 {
     let rows = plus(branch_numbers(w), record_numbers(w));
-    plus(11 + FIRST_NAMES, plus(rows, get(w, PLACE_ROWS))) % 65536 * 8
+    let disk = plus(get(w, SIZE), 2);
+    plus(11 + FIRST_NAMES, plus(plus(rows, get(w, PLACE_ROWS)), disk)) % 65536 * 8
 }
 
 // Each record changes rows with the next in two ways.
@@ -56,7 +62,7 @@ pub fn count(w: &Numbers) -> u32
     plus(replacements(w), swaps(w))
 }
 
-// Where the c-th number stands: six of the head, five lengths, then the name rows and the other tables.
+// Where the c-th number stands: six of the head, five lengths, then the name rows, the other tables and the live disk.
 fn place_of(w: &Numbers, c: u32) -> u32 {
     if c < 6 {
         return plus(HEAD, c);
@@ -71,18 +77,31 @@ fn place_of(w: &Numbers, c: u32) -> u32 {
         minus(c, 11 + FIRST_NAMES),
         branch_numbers(w),
         record_numbers(w),
+        get(w, PLACE_ROWS),
     )
 }
 
-fn table_place(i: u32, branches: u32, records: u32) -> u32 {
+fn table_place(i: u32, branches: u32, records: u32, places: u32) -> u32 {
     if i < branches {
         return plus(BRANCH_TABLE, i);
     }
     let k = minus(i, branches);
     if k < records {
-        plus(RECORD_TABLE, k)
+        return plus(RECORD_TABLE, k);
+    }
+    let p = minus(k, records);
+    if p < places {
+        plus(PLACE_TABLE, p)
     } else {
-        plus(PLACE_TABLE, minus(k, records))
+        disk_place(minus(p, places))
+    }
+}
+
+fn disk_place(i: u32) -> u32 {
+    if i < 2 {
+        plus(DISK_LENGTH, i)
+    } else {
+        plus(MARK_TABLE, minus(i, 2))
     }
 }
 
@@ -99,12 +118,15 @@ fn value(now: u32, old: u32, v: u32) -> u32 {
     }
 }
 
-// A length is at most that of what can be lent.
-fn limited(c: u32, n: u32) -> u32 {
-    match c {
-        6..=8 => n % 65,
-        9 => n % 100,
-        10 => n % 4353,
+// A length is at most that of what can be lent, and a mark is half a byte's range, so that 128 can be added.
+fn limited(at: u32, n: u32) -> u32 {
+    match at {
+        10..=12 => n % 65,
+        13 => n % 100,
+        14 => n % 4353,
+        480 => n % 1281,
+        481 => n % 9,
+        500..=507 => n % 128,
         _ => n,
     }
 }
@@ -114,7 +136,7 @@ fn replace(w: &mut Numbers, change: u32) {
     let old = get(w, at);
     let new = value(get(w, HEAD_NOW), old, change % 8);
     put(w, REPLACED, old);
-    put(w, at, limited(change / 8, new));
+    put(w, at, limited(at, new));
 }
 
 fn put_back(w: &mut Numbers, change: u32) {
@@ -133,6 +155,14 @@ fn swap_records(w: &mut Numbers, change: u32) {
     }
 }
 
+// With every fifth change the last mark is more, or as it was again.
+fn spoil_mark(w: &mut Numbers, change: u32, by: u32) {
+    if change % 5 == 4 {
+        let last = minus(get(w, SIZE), 1);
+        add(w, plus(MARK_TABLE, last), by);
+    }
+}
+
 // The present change is made. Answers the number that was replaced last.
 pub fn make(w: &mut Numbers) -> u32
     ensures { λ r. ⌜ r ≡ getD (now (w .exit)) 58 0 ⌝ }
@@ -144,6 +174,7 @@ pub fn make(w: &mut Numbers) -> u32
     } else {
         swap_records(w, minus(change, first));
     }
+    spoil_mark(w, change, 128);
     number_at(w, REPLACED)
 }
 
@@ -154,6 +185,7 @@ pub fn undo(w: &mut Numbers) -> u32
     let old = number_at(w, REPLACED);
     let change = get(w, CHANGE);
     let first = replacements(w);
+    spoil_mark(w, change, minus(0, 128));
     if change < first {
         put_back(w, change);
     } else {

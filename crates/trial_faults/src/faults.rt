@@ -1,6 +1,7 @@
 // Faults put into what the store gave, so that the comparison is seen to find them: one to a list, and taken out after it.
-// A number or a byte is more than the store gave, two records or two names stand in each other's row, a page stands in another free place,
-// or the branch rows are those of another rule.
+// A number or a byte is not what the store gave, two records or two names stand in each other's row, a page stands in another free place,
+// or the branch rows or the marks of the live disk are those of another rule.
+use crate::live;
 use crate::rows;
 use trial_words::layout::ANSWERS;
 use trial_words::layout::AREA;
@@ -17,6 +18,8 @@ use trial_words::layout::HEAD_BRANCHES;
 use trial_words::layout::HEAD_NAMES;
 use trial_words::layout::HEAD_NOW;
 use trial_words::layout::HEAD_RECORDS;
+use trial_words::layout::LIVE;
+use trial_words::layout::LIVE_REFUSED;
 use trial_words::layout::MOST_NAMES;
 use trial_words::layout::NAME_TABLE;
 use trial_words::layout::Numbers;
@@ -24,6 +27,7 @@ use trial_words::layout::PAGE_ANSWER;
 use trial_words::layout::PLACE_ROWS;
 use trial_words::layout::PLACE_TABLE;
 use trial_words::layout::PLAY;
+use trial_words::layout::READ_BACK;
 use trial_words::layout::RECORD_TABLE;
 use trial_words::layout::ROWS_READ;
 use trial_words::layout::SLAB;
@@ -46,8 +50,8 @@ ghost use lib.ListN.{getD};
 
 // The faults are numbered from 1, as the program `trials` names them.
 // Where a fault can stand: an index of the table of numbers; BYTES and an index of the table of bytes; two records in each other's row;
-// a record in another free place; two names in each other's row; branch rows, as the module for them numbers them.
-const BYTES: u32 = 65536;
+// a record in another free place; two names in each other's row; branch rows and the live disk, as the modules for them number them.
+pub(crate) const BYTES: u32 = 65536;
 
 const SWAPPED: u32 = 131072;
 
@@ -58,9 +62,14 @@ const SWAPPED_NAMES: u32 = 131584;
 
 pub(crate) const NOWHERE: u32 = 4294967295;
 
-// One, but two at the end of the first branch, which is the largest number.
+// One, but two at the end of the first branch, which is the largest number; of a mark, what its fault says.
 fn step(w: &Numbers) -> u32 {
-    if get(w, FAULT) == 32 { 2 } else { 1 }
+    let fault = get(w, FAULT);
+    match fault {
+        32 => 2,
+        60..=81 => live::step(fault),
+        _ => 1,
+    }
 }
 
 fn spot(w: &Numbers, b: &Bytes, fault: u32) -> u32 {
@@ -73,6 +82,9 @@ fn spot(w: &Numbers, b: &Bytes, fault: u32) -> u32 {
     }
     if turn == FRESH {
         return in_fresh(fault);
+    }
+    if turn >= LIVE {
+        return live::spot(w, b, fault, turn == LIVE);
     }
     in_page(b, fault)
 }
@@ -90,6 +102,7 @@ fn in_batch(w: &Numbers, b: &Bytes, fault: u32) -> u32 {
         47 => in_naming(b, listed(w, 0).operation),
         50..=56 => in_reclaim(w, b, fault, listed(w, 0).operation),
         57 => ROWS_READ,
+        60..=67 => live::in_batch(w, b, fault, listed(w, 0)),
         _ => NOWHERE,
     }
 }
@@ -213,15 +226,30 @@ fn in_fresh(fault: u32) -> u32 {
     }
 }
 
-// The tables as they were before a batch on a changed store, so that the batch seems to have changed them.
-fn in_kept(fault: u32) -> u32 {
+// The tables and the live disk as they were before a batch on a changed store, so that the batch seems to have changed them; the disk as
+// it was before a step that is refused, or before a batch that only reads.
+fn in_kept(turn: u32, fault: u32) -> u32 {
+    if turn == CHANGED {
+        return in_kept_store(fault);
+    }
+    if turn == LIVE_REFUSED {
+        return live::in_kept(fault, 86);
+    }
+    if turn == READ_BACK {
+        live::in_kept(fault, 90)
+    } else {
+        NOWHERE
+    }
+}
+
+fn in_kept_store(fault: u32) -> u32 {
     match fault {
         25 => BRANCH_TABLE,
         26 => RECORD_TABLE,
         27 => PLACE_TABLE,
         28 => plus(BYTES, SLAB),
         49 => NAME_TABLE,
-        _ => NOWHERE,
+        _ => live::in_kept(fault, 88),
     }
 }
 
@@ -251,9 +279,10 @@ fn swap_byte(b: &mut Bytes, i: u32, j: u32) {
     put_byte(b, j, x);
 }
 
-fn swap_pages(b: &mut Bytes, p: u32, q: u32) {
-    for i in 0..256u32 {
-        swap_byte(b, SLAB + p % 16 * 256 + i, SLAB + q % 16 * 256 + i);
+// The 256 bytes from one index on, and those from another on, in each other's place.
+pub(crate) fn swap_pages(b: &mut Bytes, i: u32, j: u32) {
+    for k in 0..256u32 {
+        swap_byte(b, plus(i, k), plus(j, k));
     }
 }
 
@@ -262,7 +291,7 @@ fn move_page(w: &mut Numbers, b: &mut Bytes, from: u32, to: u32) {
     let row = minus(get(w, plus(PLACE_TABLE, from)), 1);
     put(w, plus(record_row(row), 2), to);
     swap(w, plus(PLACE_TABLE, from), plus(PLACE_TABLE, to));
-    swap_pages(b, from, to);
+    swap_pages(b, SLAB + from % 16 * 256, SLAB + to % 16 * 256);
 }
 
 fn shift(w: &mut Numbers, b: &mut Bytes, at: u32, by: u32) {
@@ -286,6 +315,10 @@ fn shift(w: &mut Numbers, b: &mut Bytes, at: u32, by: u32) {
     }
     if rows::is_spot(at) {
         rows::shift(w, at, by == 1);
+        return;
+    }
+    if live::is_spot(at) {
+        live::swap(w, b, at);
         return;
     }
     if at < MOVED + 256 {
@@ -326,10 +359,8 @@ pub fn put_in(w: &mut Numbers, b: &mut Bytes) -> u32
 pub fn put_in_kept(w: &mut Numbers, b: &mut Bytes) -> u32
     ensures { λ r. ⌜ r ≡ getD (now (w .exit)) 60 0 ⌝ }
 {
-    let fault = get(w, FAULT);
-    if get(w, TURN) == CHANGED {
-        put_at(w, b, in_kept(fault));
-    }
+    let at = in_kept(get(w, TURN), get(w, FAULT));
+    put_at(w, b, at);
     number_at(w, SPOT)
 }
 

@@ -1,6 +1,7 @@
-// The reference's table checks: which of the stops 1, 2 and 3 is due for the head, the lengths and the tables as they stand.
+// The reference's table checks: which of the stops 1, 2, 3 and 18 is due for the head, the lengths, the tables and the marks as they stand.
 use trial_words::layout::BRANCH_LENGTH;
 use trial_words::layout::BRANCH_TABLE;
+use trial_words::layout::DISK_LENGTH;
 use trial_words::layout::HEAD;
 use trial_words::layout::HEAD_BRANCHES;
 use trial_words::layout::HEAD_FLOOR;
@@ -8,6 +9,8 @@ use trial_words::layout::HEAD_NAMES;
 use trial_words::layout::HEAD_NOW;
 use trial_words::layout::HEAD_RECORDS;
 use trial_words::layout::LAST;
+use trial_words::layout::MARK_LENGTH;
+use trial_words::layout::MARK_TABLE;
 use trial_words::layout::MOST_NAMES;
 use trial_words::layout::NAME_LENGTH;
 use trial_words::layout::NAME_NUMBERS;
@@ -39,11 +42,30 @@ pub(crate) fn due(w: &Numbers) -> u32 {
     if broken_from(w, 0) < get(w, HEAD_RECORDS) {
         return 3;
     }
-    if in_use(w, PLACE_TABLE, get(w, PLACE_LENGTH)) == get(w, HEAD_RECORDS) {
-        0
-    } else {
-        3
+    if in_use(w, PLACE_TABLE, get(w, PLACE_LENGTH)) != get(w, HEAD_RECORDS) {
+        return 3;
     }
+    if live_right(w, get(w, HEAD)) { 0 } else { 18 }
+}
+
+// The live disk has 256 bytes for each page, and there is a mark for each.
+fn live_right(w: &Numbers, size: u32) -> bool {
+    if get(w, DISK_LENGTH) != size % 65537 * 256 {
+        return false;
+    }
+    if get(w, MARK_LENGTH) != size {
+        return false;
+    }
+    marks_right(w, size)
+}
+
+fn marks_right(w: &Numbers, n: u32) -> bool {
+    for a in 0..n {
+        if get(w, plus(MARK_TABLE, a)) > 3 {
+            return false;
+        }
+    }
+    true
 }
 
 // How many record rows are read where that stop is due: up to and including the first that breaks a rule, else all; none with 1 and 2.

@@ -1,5 +1,6 @@
 // What a batch reported, and each byte of its answers, against what the reference expects.
 use crate::checks;
+use crate::live;
 use trial_words::layout::ANSWERED;
 use trial_words::layout::ANSWERS;
 use trial_words::layout::AREA;
@@ -60,7 +61,7 @@ ghost use mathlib.Core.Path.{_≡_};
 ghost use lib.ListN.{getD};
 
 // One difference more where two numbers differ.
-fn same(w: &mut Numbers, a: u32, b: u32) {
+pub(crate) fn same(w: &mut Numbers, a: u32, b: u32) {
     if a != b {
         add(w, WRONG, 1);
     }
@@ -252,8 +253,8 @@ fn same_numbers(w: &mut Numbers, i: u32, j: u32, n: u32) {
     }
 }
 
-// The store after a batch: its head, its branch rows, its names, its records, and that the next batch will find its tables sound. Answers
-// the differences in the list so far.
+// The store after a batch: its head, its branch rows, its names, its records, its live disk, and that the next batch will find its tables
+// sound. Answers the differences in the list so far.
 pub fn judge_store(w: &mut Numbers, b: &Bytes) -> u32
     ensures { λ r. ⌜ r ≡ getD (now (w .exit)) 51 0 ⌝ }
 {
@@ -263,6 +264,8 @@ pub fn judge_store(w: &mut Numbers, b: &Bytes) -> u32
     same_numbers(w, NAME_TABLE, NAME_ROWS, NAME_NUMBERS);
     let wrong = records_wrong(w, b, get(w, HELD));
     same(w, wrong, 0);
+    let disk_differs = live::disk_wrong(w, b, get(w, SIZE));
+    same(w, disk_differs, 0);
     let stop = checks::due(w);
     same(w, stop, 0);
     number_at(w, WRONG)
@@ -372,8 +375,8 @@ pub fn judge_stop(w: &mut Numbers, b: &Bytes) -> u32
     let rows = plus(get(w, TOUCHED), get(w, TOUCHED + 1));
     let rest = plus(get(w, TOUCHED + 2), get(w, TOUCHED + 3));
     same(w, plus(rows, rest), 0);
-    let slab = get(w, TOUCHED + 4);
-    same(w, slab, 0);
+    let bytes = plus(get(w, TOUCHED + 4), get(w, TOUCHED + 5));
+    same(w, bytes, 0);
     number_at(w, WRONG)
 }
 
@@ -405,7 +408,7 @@ fn judge_rows(w: &mut Numbers) {
 }
 
 // How many of n bytes from an index on are not b.
-fn others(t: &Bytes, from: u32, n: u32, b: u32) -> u32 {
+pub(crate) fn others(t: &Bytes, from: u32, n: u32, b: u32) -> u32 {
     let mut count: u32 = 0;
     for i in 0..n {
         if byte(t, plus(from, i)) != b {

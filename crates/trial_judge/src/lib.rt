@@ -1,3 +1,4 @@
 // The store against the reference.
 mod checks;
 pub mod judge;
+pub mod live;

@@ -1,11 +1,13 @@
-// The bytes of the requests that are listed.
+// The bytes of the requests that are listed, and of the live disk that a list begins with.
 use trial_words::layout::Bytes;
 use trial_words::layout::COUNT;
 use trial_words::layout::CUT;
 use trial_words::layout::INPUT;
 use trial_words::layout::INPUT_BYTES;
+use trial_words::layout::MARK_TABLE;
 use trial_words::layout::Numbers;
 use trial_words::layout::TOTAL;
+use trial_words::layout::disk_page;
 use trial_words::request::Request;
 use trial_words::request::bytes_of;
 use trial_words::request::high_of;
@@ -19,7 +21,7 @@ use trial_words::words::put;
 use trial_words::words::put_byte;
 use trial_words::words::remainder;
 ghost use mathlib.Core.Path.{_≡_};
-ghost use lib.ListN.{getD};
+ghost use lib.ListN.{length, getD};
 
 // Operation 3 bits, address 16, moment 32, spare 5.
 fn packed(operation: u32, address: u32, moment: u32, spare: u32) -> u64 {
@@ -92,8 +94,29 @@ fn encode_all(w: &mut Numbers, b: &mut Bytes, n: u32) {
     }
 }
 
+// The live disk and its marks, as the reference has them.
+pub fn lay_disk(w: &mut Numbers, b: &mut Bytes)
+    ensures { λ _. ⌜ length (now (w .exit)) ≡ length (now (w .entry)) ⌝ }
+    ensures { λ _. ⌜ length (now (b .exit)) ≡ length (now (b .entry)) ⌝ }
+{
+    for a in 0..4u32 {
+        lay_page(w, b, a);
+    }
+}
+
+fn lay_page(w: &mut Numbers, b: &mut Bytes, a: u32)
+    ensures { λ _. ⌜ length (now (w .exit)) ≡ length (now (w .entry)) ⌝ }
+    ensures { λ _. ⌜ length (now (b .exit)) ≡ length (now (b .entry)) ⌝ }
+{
+    let mark = trial_reference::live::mark(w, a);
+    fill(b, disk_page(a), 256, trial_reference::live::filling(w, a));
+    put(w, plus(MARK_TABLE, a), mark);
+}
+
 // n bytes from an index on, all b.
-fn fill(t: &mut Bytes, from: u32, n: u32, b: u32) {
+fn fill(t: &mut Bytes, from: u32, n: u32, b: u32)
+    ensures { λ _. ⌜ length (now (t .exit)) ≡ length (now (t .entry)) ⌝ }
+{
     for i in 0..n {
         put_byte(t, plus(from, i), b);
     }

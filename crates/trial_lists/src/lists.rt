@@ -1,9 +1,12 @@
 // The lists of requests: every short one over an alphabet, and long ones from a generator.
 use trial_words::layout::AREA;
+use trial_words::layout::BUDGET;
+use trial_words::layout::BUDGET_SEED;
 use trial_words::layout::CALLED;
 use trial_words::layout::COUNT;
 use trial_words::layout::CUT;
 use trial_words::layout::FIRST;
+use trial_words::layout::LAST;
 use trial_words::layout::LENGTH;
 use trial_words::layout::MODE;
 use trial_words::layout::NAMES;
@@ -329,6 +332,15 @@ pub fn list_mark(w: &mut Numbers) -> u32
     put(w, AREA, PAGE_ANSWER + 3);
     put(w, CUT, 0);
     number_at(w, COUNT)
+}
+
+// The budget of a copying step: none to four pages, or the largest number. Answers it.
+pub fn list_step(w: &mut Numbers) -> u32
+    ensures { λ r. ⌜ r ≡ getD (now (w .exit)) 484 0 ⌝ }
+{
+    let n = draw(w, BUDGET_SEED, 6);
+    put(w, BUDGET, if n == 5 { LAST } else { n });
+    number_at(w, BUDGET)
 }
 
 fn quotient(a: u32, b: u32) -> u32 {

@@ -1,6 +1,8 @@
 // The reference: a complete snapshot of the volume for each moment, the held pairs, now, floor and the names; plain, and slow on purpose.
-// Beside them it keeps the branch rows and the place of each held pair. Readable are the moments from the floor to now and the named ones.
+// Beside them it keeps the branch rows, the place of each held pair, and the live disk. Readable are the moments from the floor to now and
+// the named ones.
 pub mod branches;
+pub mod live;
 pub mod names;
 pub mod places;
 
@@ -75,6 +77,7 @@ pub fn reset(w: &mut Numbers)
     places::free_all(w);
     names::forget_all(w);
     branches::begin(w);
+    live::begin(w);
     clear_row(w, 0);
 }
 
@@ -130,6 +133,7 @@ fn write(w: &mut Numbers, a: u32, value: u32) -> u32 {
     let code = value % 256 + 1;
     hold(w, i, a, code);
     put_two(w, page_at(i, a), code, i);
+    live::write(w, a, value % 256);
     now(w)
 }
 
@@ -139,6 +143,7 @@ fn mark(w: &mut Numbers) -> u32 {
 
 fn revert(w: &mut Numbers, from: u32, moment: u32) -> u32 {
     branches::make(w, now(w), moment);
+    live::set_back(w);
     advance(w, from)
 }
 

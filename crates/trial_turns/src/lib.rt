@@ -1,9 +1,12 @@
-// The turns of a family of lists: a fresh store, or a batch with the comparison after it. What the next turn does is one of the numbers.
+// The turns of a family of lists: a fresh store, or a batch, or live reads and a copying step, with the comparison after them. What the
+// next turn does is one of the numbers.
 use trial_calls::calls;
 use trial_faults::changes;
 use trial_faults::faults;
+use trial_faults::live;
 use trial_faults::rows;
 use trial_judge::judge;
+use trial_judge::live as judge_live;
 use trial_lists::encoding;
 use trial_lists::lists;
 use trial_words::layout::BASE;
@@ -13,6 +16,7 @@ use trial_words::layout::Bytes;
 use trial_words::layout::CHANGE;
 use trial_words::layout::CHANGED;
 use trial_words::layout::DIFFER;
+use trial_words::layout::DUE;
 use trial_words::layout::ENDED;
 use trial_words::layout::FAULTY;
 use trial_words::layout::FLOOR;
@@ -20,6 +24,8 @@ use trial_words::layout::FRESH;
 use trial_words::layout::HEAD_NOW;
 use trial_words::layout::LETTERS;
 use trial_words::layout::LISTS;
+use trial_words::layout::LIVE;
+use trial_words::layout::LIVE_REFUSED;
 use trial_words::layout::NAMES;
 use trial_words::layout::NOW;
 use trial_words::layout::NUMBER;
@@ -72,10 +78,37 @@ fn take_turn(w: &mut Numbers, b: &mut Bytes) {
         begin(w, b);
         return;
     }
+    if turn >= LIVE {
+        look(w, b, turn == LIVE);
+        return;
+    }
     hand_in(w, b, turn);
     calls::ask(w, b);
     judge_turn(w, b, turn);
     advance(w, turn);
+}
+
+// Live reads and a copying step, on the store after a batch or on a changed one that is refused.
+fn look(w: &mut Numbers, b: &mut Bytes, sound: bool) {
+    lists::list_step(w);
+    live::note_before(w);
+    calls::look(w, b);
+    faults::put_in(w, b);
+    compare_look(w, b, sound);
+    faults::take_out(w, b);
+    if sound {
+        next_batch(w, plus(get(w, BATCH), 1));
+    } else {
+        end_change(w);
+    }
+}
+
+fn compare_look(w: &mut Numbers, b: &Bytes, sound: bool) {
+    if sound {
+        judge_live::judge(w, b);
+    } else {
+        judge_live::judge_refused(w, b);
+    }
 }
 
 // A fresh store and its reference; the first batch is next.
@@ -84,14 +117,15 @@ fn begin(w: &mut Numbers, b: &mut Bytes) {
     faults::put_in(w, b);
     judge::judge_fresh(w);
     faults::take_out(w, b);
-    restart(w);
+    restart(w, b);
 }
 
-// Where moments count from a base, the head starts there.
-fn restart(w: &mut Numbers) {
+// Where moments count from a base, the head starts there. Every page of the live disk is stale.
+fn restart(w: &mut Numbers, b: &mut Bytes) {
     let base = get(w, BASE);
     put_two(w, HEAD_NOW, base, base);
     trial_reference::reset(w);
+    encoding::lay_disk(w, b);
     put_two(w, TURN, PLAY, 0);
 }
 
@@ -149,11 +183,13 @@ fn compare(w: &mut Numbers, b: &Bytes, turn: u32) {
     judge::judge(w, b);
     if turn == PLAY {
         judge::judge_store(w, b);
+    } else {
+        judge_live::judge_kept(w);
     }
 }
 
-// After each batch of the list every readable snapshot is read back, from the floor to now and then the named ones; after the last the
-// changes are tried.
+// After each batch of the list every readable snapshot is read back, from the floor to now and then the named ones; then every page is read
+// live, and a copying step is made. After the last the changes are tried. Where the list has had its fault, nothing more of it is tried.
 fn advance(w: &mut Numbers, turn: u32) {
     if turn == PLAY {
         add(w, BATCHES, 1);
@@ -166,20 +202,34 @@ fn advance(w: &mut Numbers, turn: u32) {
         return;
     }
     add(w, BATCHES, 1);
+    if get(w, DUE) == 0 {
+        end_change(w);
+    } else {
+        put(w, TURN, LIVE_REFUSED);
+    }
+}
+
+fn end_change(w: &mut Numbers) {
     changes::undo(w);
+    put(w, TURN, CHANGED);
     next_change(w, plus(get(w, CHANGE), 1));
 }
 
+// Whether one more comes before the n-th.
+fn goes_on(w: &Numbers, i: u32, n: u32) -> bool {
+    if get(w, FAULTY) == 0 { i < n } else { false }
+}
+
 fn next_snapshot(w: &mut Numbers, i: u32) {
-    if i < plus(get(w, NOW), get(w, NAMES)) {
+    if goes_on(w, i, plus(get(w, NOW), get(w, NAMES))) {
         put(w, SNAPSHOT, plus(i, 1));
     } else {
-        next_batch(w, plus(get(w, BATCH), 1));
+        put(w, TURN, LIVE);
     }
 }
 
 fn next_batch(w: &mut Numbers, j: u32) {
-    if j < lists::batches(w) {
+    if goes_on(w, j, lists::batches(w)) {
         put_two(w, TURN, PLAY, j);
     } else {
         put(w, TURN, CHANGED);
@@ -188,7 +238,7 @@ fn next_batch(w: &mut Numbers, j: u32) {
 }
 
 fn next_change(w: &mut Numbers, k: u32) {
-    if k < changes::count(w) {
+    if goes_on(w, k, changes::count(w)) {
         put(w, CHANGE, k);
     } else {
         close(w);

@@ -13,6 +13,7 @@ use trial_words::layout::BRANCH_LENGTH;
 use trial_words::layout::Bytes;
 use trial_words::layout::COUNT;
 use trial_words::layout::CUT;
+use trial_words::layout::DISK_LENGTH;
 use trial_words::layout::HEAD_BRANCHES;
 use trial_words::layout::HEAD_RECORDS;
 use trial_words::layout::LARGEST;
@@ -38,6 +39,7 @@ use trial_words::words::number_at;
 use trial_words::words::plus;
 use trial_words::words::put;
 use trial_words::words::put_four;
+use trial_words::words::put_two;
 ghost use mathlib.Core.Path.{_≡_};
 ghost use lib.ListN.{length, getD};
 
@@ -98,6 +100,7 @@ fn set_sizes(w: &mut Numbers) {
     put_four(w, SIZE, 8, BRANCH_ROWS, 512, 512);
     put_four(w, BRANCH_LENGTH, 12288, 1536, 512, NAME_NUMBERS);
     put(w, SLAB_LENGTH, 131072);
+    put_two(w, DISK_LENGTH, 2048, 8);
 }
 
 // All weeks on a fresh store, each reclaim to so many weeks before. Answers the largest count of branches.

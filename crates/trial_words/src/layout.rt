@@ -155,7 +155,7 @@ pub const TOLD: u32 = 92;
 
 pub const PLACES: u32 = 112;
 
-// The head that is due (6 numbers), and how much a batch changed of each table and of the slab.
+// The head that is due (6 numbers), and how much a batch changed of each table, of the slab, and of the live disk and its marks.
 pub const HEAD_DUE: u32 = 80;
 
 pub const TOUCHED: u32 = 86;
@@ -179,6 +179,39 @@ pub const BROKEN_BEHIND: u32 = 472;
 
 pub const UNREAD: u32 = 473;
 
+// The live disk: the lengths lent, of the disk in bytes and of its marks.
+pub const DISK_LENGTH: u32 = 480;
+
+pub const MARK_LENGTH: u32 = 481;
+
+// A copying step: its budget, and what it reported, a refusal and a count; where faults are put in, the marks before it.
+pub const BUDGET: u32 = 484;
+
+pub const COPIED: u32 = 485;
+
+pub const MARKS_BEFORE: u32 = 488;
+
+// The live disk of the reference: the byte that fills each page, and its mark. Then the marks that are lent, of which there can be eight.
+pub const DISK_DUE: u32 = 492;
+
+pub const MARKS_DUE: u32 = 496;
+
+pub const MARK_TABLE: u32 = 500;
+
+// The live reads so far: from the disk, blank there, from the slab, none there, refused; the steps, those with stale pages left; the
+// pages that they brought to date, and how many of these as blank. Where the generator of budgets stands.
+pub const LIVE_READS: u32 = 512;
+
+pub const STEPS: u32 = 517;
+
+pub const LEFT_STALE: u32 = 518;
+
+pub const TURNED: u32 = 519;
+
+pub const TURNED_BLANK: u32 = 520;
+
+pub const BUDGET_SEED: u32 = 521;
+
 // The tables that are lent to the store.
 pub const BRANCH_TABLE: u32 = 5120;
 
@@ -193,14 +226,17 @@ pub const NAME_ROWS: u32 = 5424;
 
 pub const SEEN: u32 = 5536;
 
-// In the table of bytes: the slab, what is handed in, and the answer area.
+// In the table of bytes: the slab, what is handed in, the live disk (1280 bytes), and the answer area.
 pub const SLAB: u32 = 0;
 
 pub const INPUT_BYTES: u32 = 4352;
 
+pub const DISK: u32 = 6656;
+
 pub const ANSWERS: u32 = 8192;
 
-// What a turn does: a fresh store; the next batch of the list; a read of every address at a moment; a batch on a changed store.
+// What a turn does: a fresh store; the next batch of the list; a read of every address at a moment; a batch on a changed store; live reads
+// and a copying step, after the batch of a list, or on a changed store that is refused.
 pub const FRESH: u32 = 0;
 
 pub const PLAY: u32 = 1;
@@ -210,6 +246,10 @@ pub const READ_BACK: u32 = 2;
 pub const CHANGED: u32 = 3;
 
 pub const ENDED: u32 = 4;
+
+pub const LIVE: u32 = 5;
+
+pub const LIVE_REFUSED: u32 = 6;
 
 // The last moment, and the largest number.
 pub const LAST: u32 = 4294967295;
@@ -246,6 +286,20 @@ pub fn record_row(i: u32) -> u32
     ensures { λ r. ⌜ r ≡ 5184 + i % 65536 * 3 ⌝ }
 {
     RECORD_TABLE + i % 65536 * 3
+}
+
+// What a live read of an address gave, in the answer area: the page, the refusal, and 1 where there is a page.
+pub fn live_at(a: u32) -> u32
+    ensures { λ r. ⌜ r ≡ 8192 + a % 8 * 260 ⌝ }
+{
+    ANSWERS + a % 8 * 260
+}
+
+// A page of the live disk.
+pub fn disk_page(a: u32) -> u32
+    ensures { λ r. ⌜ r ≡ 6656 + a % 4 * 256 ⌝ }
+{
+    DISK + a % 4 * 256
 }
 
 // A row of the name table lent.

@@ -11,15 +11,19 @@ use trial_words::layout::BELOW;
 use trial_words::layout::BRANCH_LENGTH;
 use trial_words::layout::BROKEN;
 use trial_words::layout::BROKEN_BEHIND;
+use trial_words::layout::BUDGET_SEED;
 use trial_words::layout::CALLED;
 use trial_words::layout::CHANGES;
 use trial_words::layout::DIFFER;
+use trial_words::layout::DISK_LENGTH;
 use trial_words::layout::FAULT;
 use trial_words::layout::FAULTS;
 use trial_words::layout::FIRST;
 use trial_words::layout::FOR_NAME;
 use trial_words::layout::FOR_RECORD;
 use trial_words::layout::LARGEST;
+use trial_words::layout::LEFT_STALE;
+use trial_words::layout::LIVE_READS;
 use trial_words::layout::MODE;
 use trial_words::layout::NAME_NUMBERS;
 use trial_words::layout::Numbers;
@@ -29,8 +33,11 @@ use trial_words::layout::SEED;
 use trial_words::layout::SEEN;
 use trial_words::layout::SIZE;
 use trial_words::layout::SLAB_LENGTH;
+use trial_words::layout::STEPS;
 use trial_words::layout::TAKEN_OVER;
 use trial_words::layout::TOLD;
+use trial_words::layout::TURNED;
+use trial_words::layout::TURNED_BLANK;
 use trial_words::layout::UNREAD;
 use trial_words::layout::WENT;
 use trial_words::layout::WRONG;
@@ -38,6 +45,7 @@ use trial_words::words::get;
 use trial_words::words::plus;
 use trial_words::words::put;
 use trial_words::words::put_four;
+use trial_words::words::put_two;
 ghost use mathlib.Core.Path.{_≡_};
 ghost use lib.ListN.{length};
 
@@ -187,6 +195,7 @@ fn set_lengths(w: &mut Numbers, size: u32, branches: u32, records: u32, places: 
         NAME_NUMBERS,
     );
     put(w, SLAB_LENGTH, places % 65536 * 256);
+    put_two(w, DISK_LENGTH, size % 65536 * 256, size);
 }
 
 fn set_family(w: &mut Numbers, k: u32) {
@@ -308,8 +317,36 @@ fn say_others(w: &Numbers) {
     io::write_all(1, b"\n");
 }
 
+// The live reads by what they gave, and the copying steps.
+fn say_live(w: &Numbers) {
+    io::write_all(1, b"live reads gave a page of the disk");
+    say_count(w, LIVE_READS);
+    io::write_all(1, b", a blank one");
+    say_count(w, LIVE_READS + 1);
+    io::write_all(1, b", a stored page");
+    say_count(w, LIVE_READS + 2);
+    io::write_all(1, b", none stored");
+    say_count(w, LIVE_READS + 3);
+    io::write_all(1, b", a refusal");
+    say_count(w, LIVE_READS + 4);
+    io::write_all(1, b"\n");
+    say_steps(w);
+}
+
+fn say_steps(w: &Numbers) {
+    io::write_all(1, b"copying steps");
+    say_count(w, STEPS);
+    io::write_all(1, b", pages brought to date");
+    say_count(w, TURNED);
+    io::write_all(1, b", of these as blank");
+    say_count(w, TURNED_BLANK);
+    io::write_all(1, b", left stale by the budget");
+    say_count(w, LEFT_STALE);
+    io::write_all(1, b"\n");
+}
+
 fn say_seen(w: &Numbers) {
-    for k in 1..18u32 {
+    for k in 1..19u32 {
         say_count(w, plus(SEEN, k));
     }
 }
@@ -320,16 +357,19 @@ fn in_refused(fault: u32) -> u32 {
         23..=29 => 1,
         49 => 1,
         58 | 59 => 1,
+        82..=89 => 1,
         _ => 0,
     }
 }
 
-// Faults from the 41st on are of names, from the 50th on of reclaims, from the 57th on of the record rows read.
+// Faults from the 41st on are of names, from the 50th on of reclaims, from the 57th on of the record rows read, from the 60th on of the
+// live disk, where the first ones are of an operator who sets back.
 fn fault_family(fault: u32) -> u32 {
     match fault {
         1..=40 => FAULT_FAMILY,
         41..=49 => FAULT_FAMILY + 1,
         50..=56 => FAULT_FAMILY + 2,
+        60..=81 => FAULT_FAMILY + 2,
         _ => FAULT_FAMILY,
     }
 }
@@ -347,7 +387,7 @@ fn with_fault(w: &mut Numbers, fault: u32) {
 }
 
 fn all_faults(w: &mut Numbers) {
-    for fault in 1..60u32 {
+    for fault in 1..92u32 {
         with_fault(w, fault);
     }
 }
@@ -406,14 +446,16 @@ fn say_ways() {
 fn main() {
     let mut w = numbers();
     put(&mut w, SEED, 20260);
+    put(&mut w, BUDGET_SEED, 20261);
     run_families(&mut w);
-    io::write_all(1, b"refusals and stops 1 to 17 came up:");
+    io::write_all(1, b"refusals and stops 1 to 18 came up:");
     say_seen(&w);
     io::write_all(1, b"\n");
     say_told(&w);
     say_below(&w);
     say_settled(&w);
     say_broken(&w);
+    say_live(&w);
     weekly(4);
     weekly(52);
     say_ways();

@@ -63,13 +63,37 @@ the rows of a reclaim, all kept\nthe record rows read\nthe record rows read wher
 the record rows read where 3 refuses";
     io::write_all(1, b"a fault in ");
     say_line(names, fault);
+    say_live_fault(fault);
     io::write_all(1, b": put into ");
+}
+
+// The faults of the live disk, from the 60th on.
+fn say_live_fault(fault: u32) {
+    let names = b"a mark after a revert, the page left current\n\
+a mark after a revert, the blank mark gone\nthe disk after a revert\n\
+a mark after a write, the page left stale\na mark after a write, the blank mark left\n\
+the disk after a write, the last byte of the page\na mark after a refused request\n\
+the disk after a refused request\nthe refusal of a live read behind the last page\n\
+the refusal of a live read\nthe page of a live read, that of the neighbour\n\
+a live read, a page where there is none\na live read, none where there is a page\n\
+the last byte of the page of a live read\nthe refusal of a copying step\n\
+the count of a copying step\nthe marks after a step, a higher page brought to date in place of the lowest\n\
+a mark after a step, the page left stale\na mark after a step, a blank page not marked so\n\
+a mark after a step, the blank mark left on a copied page\nthe disk after a step, the last byte of a copied page\n\
+the disk after a step, the last byte of a blank page\nthe refusal of a live read on a refused store\n\
+a live read on a refused store, a page given\nthe refusal of a step on a refused store\n\
+the count of a step on a refused store\na mark after a step on a refused store\n\
+the disk after a step on a refused store\nthe marks of a refused store\nthe disk of a refused store\n\
+a mark after a batch that reads\nthe disk after a batch that reads";
+    if fault >= 60 {
+        say_line(names, minus(fault, 60));
+    }
 }
 
 // The k-th line of a text, counted from 0.
 fn say_line(text: &[u8], k: u32) {
     let mut line: u32 = 0;
-    for i in 0..2048u32 {
+    for i in 0..4096u32 {
         line = say_next(text, i, line, k);
     }
 }

@@ -5,3 +5,4 @@ pub mod Packed
 pub mod Names
 pub mod Weekly
 pub mod RowsRead
+pub mod Live

@@ -41,14 +41,35 @@ fn drawn_call(draw: &mut Draw, now: u32) -> (Vec<u8>, usize, u32) {
     }
 }
 
+/// A live read or a copying step, for which this is due: 0 or a refusal.
+fn live_call(run: &mut Run, draw: &mut Draw, due: u32) {
+    let size = u64::from(run.head(0)).clamp(1, u64::from(LARGEST_SIZE));
+    match draw.below(3) {
+        0 => {
+            let any = draw.below(size);
+            let address = draw.one_of(&[0, size - 1, any]) as u32;
+            assert_eq!(run.live_read(&None, address).refusal, due, "the case says what is due");
+            run.compare();
+        }
+        1 => {
+            // On tables of the largest size a page takes long to find that no branch has.
+            let most = if due == 0 && size > 1_000 { 300 } else { OPEN_END };
+            let budget = drawn_budget(draw, size).min(most);
+            assert_eq!(run.copy_step(budget).refusal, due, "the case says what is due");
+        }
+        _ => {}
+    }
+}
+
 /// A call on these areas, for which this is due: 0 or a refusal, and the rows read.
-fn call(run: &mut Run, draw: &mut Draw, areas: Areas, due: (u32, usize)) {
+pub fn call(run: &mut Run, draw: &mut Draw, areas: Areas, due: (u32, usize)) {
     let (bytes, space, stop) = drawn_call(draw, number_at(&areas.head, 3));
     let area = draw.bytes(space);
     run.lend(areas.clone());
     let (report, after) = run.batch(&bytes, &area, |_, _| {});
     let result = if due.0 == 0 { stop } else { due.0 };
     assert_eq!((report.stop, report.rows_read), (result, due.1 as u64), "the case says what is due");
+    live_call(run, draw, due.0);
     if due.0 != 0 {
         assert_eq!((report.answered, report.request_bytes, report.answer_bytes), (0, 0, 0), "nothing is answered");
         assert!(run.areas == areas && after == area, "a refused call writes nothing");
@@ -346,7 +367,7 @@ pub fn broken_rows_of_full_tables(host: &mut dyn Host, seed: u64) {
         let draw = &mut Draw::new(seed ^ (table + 1).wrapping_mul(0x9FB2_1C65_1E98_DF25));
         let sizes = Sizes { size: 65_536, branches: 4_096, records: 65_536, places: 65_536 };
         let sound = if table < 2 { drawn_full(draw, &sizes, table) } else { drawn_with_gaps(draw, &sizes) };
-        let mut run = Run { host: &mut *host, areas: Areas::default(), always: true };
+        let mut run = Run::new(&mut *host);
         let count = number_at(&sound.head, 2) as usize;
         let offences: Vec<_> = OFFENCES.iter().filter(|offence| table < 2 || offence.rule == Rule::Moment).collect();
         call(&mut run, draw, sound.clone(), (0, count));

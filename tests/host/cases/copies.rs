@@ -1,5 +1,5 @@
 //! Copies of a store: head, tables, of the name table the counted rows, and the slab up to the last page in use (document 02,
-//! Two and Three).
+//! Two and Three). A copy gets a live disk of its own, on which every page is stale (Six).
 
 use crate::draw::*;
 use crate::packed::rounds;
@@ -17,6 +17,7 @@ struct Counted {
     with_names: u64,
     reads: u64,
     pages: u64,
+    live_reads: u64,
 }
 
 /// A read of every address at every readable moment.
@@ -36,7 +37,7 @@ fn all_reads(run: &Run) -> Vec<u8> {
 fn drawn_onto(draw: &mut Draw, areas: &Areas, larger: bool) -> Areas {
     let mut added = |most| if larger { draw.within(1, most) as usize } else { 0 };
     let sizes = Sizes {
-        size: 0,
+        size: number_at(&areas.head, 0),
         branches: areas.branches.len() / BRANCH_BYTES + added(5),
         records: areas.records.len() / RECORD_BYTES + added(12),
         places: areas.places.len() / PLACE_BYTES + added(12),
@@ -66,16 +67,18 @@ fn copy_and_read(run: &mut Run, draw: &mut Draw, pile: &mut Option<Pile>, counte
         run.copy_onto(onto);
         let read_of_copy = run.batch_beside(pile, &reads, &area);
         assert!(read_of_copy == read, "the reads of a copy are answered as those of the store");
+        counted.live_reads += run.read_all_live(pile);
         let served = run.batch(&more, &more_area, |_, _| {});
         if !larger {
-            // The slab and the name rows that are not counted are the copy's own; all else is as in the store.
+            // The slab, the live disk and the name rows that are not counted are the copy's own; all else is as in the store.
             assert!(served == (report, answers.clone()), "a copy answers as the store does");
-            let slab = run.areas.slab.clone();
+            let own = run.areas.clone();
             let counted = NAME_ROW_BYTES * run.head(5) as usize;
             let mut names = run.areas.names.clone();
             names[..counted].copy_from_slice(&after.names[..counted]);
-            run.host.compare(&Areas { slab, names, ..after.clone() });
+            run.host.compare(&Areas { slab: own.slab, disk: own.disk, marks: own.marks, names, ..after.clone() });
         }
+        run.live_calls(draw, &None);
         run.lend(original.clone());
         counted.copies += 1;
         counted.reads += read.0.answered;
@@ -88,6 +91,7 @@ fn copy_and_read(run: &mut Run, draw: &mut Draw, pile: &mut Option<Pile>, counte
     counted.with_gaps += 2 * u64::from(PAGE * used < slab_in_use(&original.places));
 
     run.batch_beside(pile, &more, &more_area);
+    run.live_calls(draw, pile);
 }
 
 /// Lists over small stores, copied now and then.
@@ -117,7 +121,13 @@ pub fn copies(host: &mut dyn Host, seed: u64, count: u64) {
     host.end("copies up to the last page in use");
     host.note(&format!(
         "{} copies, {} of them without the end of the slab, {} with free places before it, {} with names; {} reads, \
-         {} pages found",
-        counted.copies, counted.shorter, counted.with_gaps, counted.with_names, counted.reads, counted.pages
+         {} pages found; {} live reads",
+        counted.copies,
+        counted.shorter,
+        counted.with_gaps,
+        counted.with_names,
+        counted.reads,
+        counted.pages,
+        counted.live_reads
     ));
 }

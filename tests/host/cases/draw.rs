@@ -130,6 +130,28 @@ pub fn drawn_address(draw: &mut Draw, outlook: &Outlook) -> u64 {
     }
 }
 
+/// An address for a live read, which has 32 bits.
+pub fn drawn_live_address(draw: &mut Draw, size: u64) -> u32 {
+    (match draw.below(16) {
+        0 => draw.one_of(&[size, size + 1, 65_535, 65_536, 65_537, 131_072, 4_294_967_295]),
+        1 => 65_536 * draw.within(1, 65_535) + draw.below(size.max(1)),
+        2 => size.saturating_sub(1),
+        3..=9 => draw.below(size.clamp(1, 5)),
+        _ => draw.below(size.max(1)),
+    }) as u32
+}
+
+/// A budget for a copying step: few pages, as many as there are, or more.
+pub fn drawn_budget(draw: &mut Draw, size: u64) -> u32 {
+    (match draw.below(10) {
+        0 => 0,
+        1 => draw.one_of(&[size, size + 1, 65_536, 65_537, 4_294_967_295]),
+        2 => draw.below(1 << 32),
+        3..=5 => draw.within(1, 3),
+        _ => draw.within(0, size + 1),
+    }) as u32
+}
+
 pub fn drawn_moment(draw: &mut Draw, outlook: &Outlook) -> u64 {
     let (now, floor) = (outlook.now, outlook.floor);
     if !outlook.names.is_empty() && draw.percent(30) {

@@ -8,34 +8,45 @@ mod broken;
 mod chains;
 mod copies;
 mod draw;
+mod live;
 mod names;
 mod offences;
 mod packed;
 mod tables;
 mod taken_out;
+mod unfit;
 mod weekly;
 
 use broken::{broken_rows, broken_rows_of_full_tables};
 use chains::chains;
 use copies::copies;
 use draw::*;
+use live::{largest_live_disk, live_disks};
 use names::names;
 use packed::packed;
 use tables::*;
 use taken_out::{Counting, TakenOut};
+use unfit::{unfit_disks, unfit_large_disks};
 use weekly::weekly;
 
 /// A host that lends areas to the library, calls it and compares.
 pub trait Host {
     /// From here on the lent areas have these lengths and bytes.
     fn lend(&mut self, areas: &Areas);
-    /// From here on a copy of the lent areas is lent. It is laid onto areas of these lengths and bytes: head and
-    /// tables, of the name table the counted rows, and of the slab the bytes in use.
+    /// From here on a copy of the store is lent. It is laid onto areas of these lengths and bytes: head and
+    /// tables, of the name table the counted rows, and of the slab the bytes in use. Live disk and marks are those that are
+    /// laid onto, and every page is made stale.
     fn copy_onto(&mut self, onto: &Areas);
     /// Calls for a fresh store; the result that the reference gives.
     fn fresh(&mut self, size: u32, result: u32);
+    /// The caller makes every page stale, and leaves blank marks.
+    fn make_stale(&mut self);
     /// Calls for a batch, with an answer area of these bytes; report and answer area that the reference gives.
     fn batch(&mut self, batch: &[u8], before: &[u8], report: &Report, after: &[u8]);
+    /// Calls for a live read; what the reference tells, and the page, or no bytes where there is none.
+    fn live_read(&mut self, address: u32, told: &LiveRead, page: &[u8]);
+    /// Calls for a copying step; what the reference tells.
+    fn copy_step(&mut self, budget: u32, told: &Step);
     /// The lent areas that the reference has after the last call; a host that differs takes these over.
     fn compare(&mut self, areas: &Areas);
     /// The family of cases is complete.
@@ -48,6 +59,12 @@ pub trait Host {
     fn reclaims(&mut self, _store: &Store, _floor: u32, _kept: &Kept) {}
 }
 
+/// The lent areas in their order.
+pub fn list(areas: &Areas) -> [&Vec<u8>; 8] {
+    let Areas { head, branches, records, places, names, slab, disk, marks } = areas;
+    [head, branches, records, places, names, slab, disk, marks]
+}
+
 // ---------------------------------------------------------------------------------------------
 // One call on both sides
 
@@ -57,14 +74,21 @@ struct Run<'a> {
     areas: Areas,
     /// Compare the lent areas after every call.
     always: bool,
+    /// Every page began stale, in a fresh store: a live read gives the page of a read at now.
+    began_stale: bool,
 }
 
 impl<'a> Run<'a> {
+    fn new(host: &'a mut dyn Host) -> Run<'a> {
+        Run { host, areas: Areas::default(), always: true, began_stale: false }
+    }
+
     /// A fresh store of these sizes in areas of any bytes.
     fn fresh_of(host: &'a mut dyn Host, draw: &mut Draw, sizes: &Sizes) -> Run<'a> {
-        let mut run = Run { host, areas: Areas::default(), always: true };
+        let mut run = Run::new(host);
         run.lend(drawn_areas(draw, sizes));
         run.fresh(sizes.size);
+        run.began_stale = run.areas.marks.iter().all(|mark| mark & CURRENT == 0);
         run
     }
 
@@ -74,7 +98,7 @@ impl<'a> Run<'a> {
     }
 
     /// Goes on with a copy, laid onto these areas. Of the slab it has the pages up to the last that a record has, of the
-    /// name rows the counted ones.
+    /// name rows the counted ones. Every page of its live disk is stale.
     fn copy_onto(&mut self, mut onto: Areas) {
         self.host.copy_onto(&onto);
         let places = rows(&self.areas).counted_records().iter().map(|record| record.place as usize + 1).max();
@@ -86,6 +110,7 @@ impl<'a> Run<'a> {
         onto.places[..self.areas.places.len()].copy_from_slice(&self.areas.places);
         onto.names[..named].copy_from_slice(&self.areas.names[..named]);
         onto.slab[..in_use].copy_from_slice(&self.areas.slab[..in_use]);
+        make_stale(&mut onto.marks);
         self.host.compare(&onto);
         self.areas = onto;
     }
@@ -93,10 +118,20 @@ impl<'a> Run<'a> {
     fn fresh(&mut self, size: u32) -> u32 {
         let result = reference::fresh(size, &mut self.areas);
         self.host.fresh(size, result);
+        self.compare();
+        result
+    }
+
+    fn make_stale(&mut self) {
+        make_stale(&mut self.areas.marks);
+        self.host.make_stale();
+        self.compare();
+    }
+
+    fn compare(&mut self) {
         if self.always {
             self.host.compare(&self.areas);
         }
-        result
     }
 
     fn batch(&mut self, bytes: &[u8], before: &[u8], watch: impl FnMut(&Request, &Answer)) -> (Report, Vec<u8>) {
@@ -109,9 +144,7 @@ impl<'a> Run<'a> {
         };
         let report = batch_followed(&mut self.areas, bytes, &mut after, follow, watch);
         self.host.batch(bytes, before, &report, &after);
-        if self.always {
-            self.host.compare(&self.areas);
-        }
+        self.compare();
         (report, after)
     }
 
@@ -130,12 +163,66 @@ impl<'a> Run<'a> {
         served
     }
 
+    /// A live read, compared with the pile where there is one and every page began stale. The areas, which it must leave, are
+    /// compared by the caller, after one or more of them.
+    fn live_read(&mut self, pile: &Option<Pile>, address: u32) -> LiveRead {
+        let told = live_read(&mut self.areas, address);
+        let page = page_told(&self.areas, &told).unwrap_or_default();
+        self.host.live_read(address, &told, &page);
+        if let (Some(pile), true, 0) = (pile, self.began_stale, told.refusal) {
+            let due = pile.page(address, pile.now).map_or(&[] as &[u8], |found| &found.page);
+            if page != due {
+                self.host.pile_differs(&format!("the live page at {address}"));
+            }
+        }
+        told
+    }
+
+    /// Live reads of every address, and of the one behind; how many.
+    fn read_all_live(&mut self, pile: &Option<Pile>) -> u64 {
+        let size = self.head(0);
+        for address in 0..=size {
+            self.live_read(pile, address);
+        }
+        self.compare();
+        u64::from(size) + 1
+    }
+
+    fn copy_step(&mut self, budget: u32) -> Step {
+        let told = copy_step(&mut self.areas, budget);
+        self.host.copy_step(budget, &told);
+        self.compare();
+        told
+    }
+
+    /// Some live reads and copying steps, or none, whatever the areas hold.
+    fn live_calls(&mut self, draw: &mut Draw, pile: &Option<Pile>) {
+        let size = self.areas.marks.len() as u64;
+        if draw.percent(25) {
+            for _ in 0..draw.within(1, 2) {
+                self.live_read(pile, drawn_live_address(draw, size));
+            }
+            self.compare();
+        }
+        if draw.percent(20) {
+            self.copy_step(drawn_budget(draw, size));
+            self.live_read(pile, drawn_live_address(draw, size));
+            self.compare();
+        }
+    }
+
     fn head(&self, index: usize) -> u32 {
         number_at(&self.areas.head, index)
     }
 
     fn outlook(&self) -> Outlook {
         outlook_of(&self.areas, if self.areas.records.len() > 1_000 { 60 } else { 5 })
+    }
+}
+
+fn make_stale(marks: &mut [u8]) {
+    for mark in marks {
+        *mark &= BLANK;
     }
 }
 
@@ -192,6 +279,7 @@ fn run_batches(run: &mut Run, draw: &mut Draw, batches: u64, most: u64, pile: &m
         let cut = if draw.percent(30) { draw.below(waiting.len() as u64 + 1) as usize } else { waiting.len() };
         let area = drawn_answer_area(draw, &run.areas, &waiting[..cut]);
         let (report, _) = run.batch_beside(pile, &waiting[..cut], &area);
+        run.live_calls(draw, pile);
         if draw.percent(60) {
             let unread = if report.stop == 12 || report.stop == 13 { draw.one_of(&[1, 7]) as usize } else { 0 };
             let dropped = (report.request_bytes as usize + unread).min(waiting.len());
@@ -324,6 +412,7 @@ pub fn examples(host: &mut dyn Host, seed: u64) {
         for bytes in batches {
             let area = draw.bytes(300);
             run.batch(&bytes, &area, |_, _| {});
+            run.live_calls(draw, &None);
         }
         run.batch(&mark(), &[1, 2, 3, 4], |_, _| {});
     }
@@ -364,7 +453,7 @@ pub fn longer_lists(host: &mut dyn Host, seed: u64, count: u64) {
         let draw = &mut Draw::new(seed ^ (list + 1).wrapping_mul(0xD6E8_FEB8_6659_FD93));
         let records = draw.within(100, 1_500) as usize;
         let sizes = Sizes {
-            size: draw.one_of(&[16, 40, 5_000, 65_536]) as u32,
+            size: if list % 50 == 7 { 65_536 } else { draw.one_of(&[16, 40, 300, 5_000]) as u32 },
             branches: draw.within(40, 300) as usize,
             records,
             places: (records as u64 + draw.within(0, 100) - 50).max(1) as usize,
@@ -387,7 +476,7 @@ pub fn sound_tables(host: &mut dyn Host, seed: u64, count: u64) {
         let sizes = drawn_sizes(draw);
         let areas = drawn_sound(draw, &sizes);
         assert_eq!(check(&areas), 0, "the tables drawn are sound");
-        let mut run = Run { host: &mut *host, areas: Areas::default(), always: true };
+        let mut run = Run::new(&mut *host);
         run.lend(areas);
         let batches = draw.within(1, 4);
         run_batches(&mut run, draw, batches, 12, &mut None);
@@ -406,7 +495,7 @@ pub fn damaged_tables(host: &mut dyn Host, seed: u64, count: u64) {
         let mut areas = drawn_sound(draw, &sizes);
         let names = outlook_of(&areas, 5).names;
         damage(draw, &mut areas);
-        let mut run = Run { host: &mut *host, areas: Areas::default(), always: true };
+        let mut run = Run::new(&mut *host);
         run.lend(areas);
         if draw.percent(10) {
             let size = draw.one_of(&[0, 1, 64, 65_535, 65_536, 65_537, 4_294_967_295]) as u32;
@@ -418,7 +507,8 @@ pub fn damaged_tables(host: &mut dyn Host, seed: u64, count: u64) {
         let bytes = drawn_batch(draw, mix, &mut outlook, 8, 5);
         let area = drawn_answer_area(draw, &run.areas, &bytes);
         let (report, _) = run.batch(&bytes, &area, |_, _| {});
-        if report.stop != 1 && report.stop != 2 && report.stop != 3 {
+        run.live_calls(draw, &None);
+        if ![1, 2, 3, 18].contains(&report.stop) {
             run_batches(&mut run, draw, 2, 12, &mut None);
         }
     }
@@ -444,7 +534,7 @@ pub fn edge_sizes(host: &mut dyn Host, seed: u64) {
     ] {
         for size in [0, 1, 65_536, 65_537] {
             let sizes = Sizes { size, branches, records, places };
-            let mut run = Run { host: &mut *host, areas: Areas::default(), always: true };
+            let mut run = Run::new(&mut *host);
             run.lend(drawn_areas(draw, &sizes));
             let result = run.fresh(size);
             if result != 0 {
@@ -464,6 +554,9 @@ pub fn edge_sizes(host: &mut dyn Host, seed: u64) {
             let bytes = [mark(), write(0, &[7; PAGE]), read(0, 1), revert(0), mark(), reclaim(1)].concat();
             let area = draw.bytes(600);
             run.batch(&bytes, &area, |_, _| {});
+            let last = u64::from(size).saturating_sub(1).min(65_535);
+            run.batch(&[write(last, &[8; PAGE]), read(last, 1), write(0, &[9; PAGE])].concat(), &area, |_, _| {});
+            run.live_calls(draw, &None);
         }
     }
     lengths_of_head_and_names(host, draw);
@@ -482,6 +575,7 @@ fn lengths_of_head_and_names(host: &mut dyn Host, draw: &mut Draw) {
         area_of(&mut areas, which).resize(length, 0);
         run.lend(areas);
         run.batch(&mark(), &[0x33; 9], |_, _| {});
+        run.live_calls(draw, &None);
         run.fresh(5);
     }
 }
@@ -489,17 +583,19 @@ fn lengths_of_head_and_names(host: &mut dyn Host, draw: &mut Draw) {
 /// Every area empty in turn, and a batch with more requests and bytes than 16 bits count.
 pub fn empty_areas(host: &mut dyn Host, seed: u64) {
     let draw = &mut Draw::new(seed);
-    for which in 0..8 {
+    for which in 0..10 {
         let sizes = Sizes { size: 5, branches: 3, records: 3, places: 3 };
         let mut run = Run::fresh_of(host, draw, &sizes);
         let mut areas = run.areas.clone();
-        if which < 6 {
+        if which < 8 {
             area_of(&mut areas, which).clear();
         }
         run.lend(areas);
-        let bytes = if which == 6 { Vec::new() } else { mark() };
-        let area = if which == 7 { Vec::new() } else { draw.bytes(9) };
+        let bytes = if which == 8 { Vec::new() } else { mark() };
+        let area = if which == 9 { Vec::new() } else { draw.bytes(9) };
         run.batch(&bytes, &area, |_, _| {});
+        run.live_read(&None, 0);
+        run.copy_step(3);
         run.fresh(5);
     }
     for room in [350_000, 349_999, 400_000] {
@@ -519,7 +615,7 @@ pub fn full_tables(host: &mut dyn Host, seed: u64, count: u64) {
         let sizes = Sizes { size: 65_536, branches: 4_096, records: 65_536, places: 65_536 };
         let areas = drawn_full(draw, &sizes, table);
         assert_eq!(check(&areas), 0, "the tables drawn are sound");
-        let mut run = Run { host: &mut *host, areas: Areas::default(), always: true };
+        let mut run = Run::new(&mut *host);
         run.lend(areas);
         let outlook = run.outlook();
         let mut bytes = Vec::new();
@@ -546,6 +642,10 @@ pub fn full_tables(host: &mut dyn Host, seed: u64, count: u64) {
         bytes.extend(reclaim(outlook.now));
         let area = draw.bytes(20_000);
         run.batch(&bytes, &area, |_, _| {});
+        for address in [0, 399, draw.below(400), draw.below(65_536), 65_535, 65_536] {
+            run.live_read(&None, address as u32);
+        }
+        run.copy_step(draw.within(1, 300) as u32);
         // The same tables with one number changed, anywhere.
         let sound = drawn_full(draw, &sizes, table);
         for _ in 0..3 {
@@ -553,6 +653,7 @@ pub fn full_tables(host: &mut dyn Host, seed: u64, count: u64) {
             change_number(draw, &mut areas);
             run.lend(areas);
             run.batch(&mark(), &area[..9], |_, _| {});
+            run.live_read(&None, draw.below(65_536) as u32);
         }
     }
     host.end("full tables");
@@ -566,11 +667,13 @@ pub fn full_tables(host: &mut dyn Host, seed: u64, count: u64) {
 /// every month a reclaim that leaves a year, in some decades ten, and a few writes behind it. In the last
 /// decades the record table gets full now and then. Twice a year the state is commissioned, by a name; names are withdrawn
 /// after a year or more, most of them below the floor by then. Every week is read at a named moment, and some set-backs go to
-/// one. The lent areas are compared every `interval` weeks, answers and counts after every call.
+/// one. Every month there is a copying step, every second week a live read. The lent areas are compared every `interval` weeks,
+/// answers and counts after every call.
 pub fn hundred_years(host: &mut dyn Host, seed: u64, weeks: u64, interval: u64) {
     let draw = &mut Draw::new(seed);
     let sizes = Sizes { size: 65_536, branches: 4_096, records: 65_536, places: 65_536 };
-    let mut run = Run { host: &mut *host, areas: Areas::default(), always: false };
+    let mut run = Run::new(&mut *host);
+    run.always = false;
     run.lend(drawn_areas(draw, &sizes));
     run.fresh(65_536);
     run.host.compare(&run.areas);
@@ -638,6 +741,12 @@ pub fn hundred_years(host: &mut dyn Host, seed: u64, weeks: u64, interval: u64) 
         if let (Some(sealed), Some(week)) = (sealed, undo_at) {
             undo = Some((sealed, week));
         }
+        if week % 2 == 0 {
+            run.live_read(&None, draw.below(65_536) as u32);
+        }
+        if week % 13 % 4 == 1 {
+            run.copy_step(draw.within(1, 2_000) as u32);
+        }
         if (week + 1) % interval == 0 || week + 1 == weeks {
             run.host.compare(&run.areas);
         }
@@ -679,6 +788,13 @@ pub struct Counts {
     pub answered: u64,
     pub stops: [u64; NUMBERS],
     pub refusals: [u64; NUMBERS],
+    /// Results of live reads and of copying steps.
+    pub live_reads: [u64; NUMBERS],
+    pub steps: [u64; NUMBERS],
+    /// Pages of live reads: none, on the disk, in the slab.
+    pub pages: [u64; 3],
+    /// Pages brought to date.
+    pub copied: u64,
 }
 
 /// All families, in order. `scale` is in hundredths of the usual number of cases.
@@ -716,6 +832,12 @@ pub fn all(host: &mut dyn Host, seed: u64, scale: u64, families: &str) {
     if chosen("broken") {
         broken_rows(host, seed, part(300));
     }
+    if chosen("live") {
+        live_disks(host, seed, part(400));
+    }
+    if chosen("unfit") {
+        unfit_disks(host, seed, part(100));
+    }
     if chosen("edges") {
         edge_sizes(host, seed);
     }
@@ -727,6 +849,10 @@ pub fn all(host: &mut dyn Host, seed: u64, scale: u64, families: &str) {
     }
     if chosen("broken_full") {
         broken_rows_of_full_tables(host, seed);
+    }
+    if chosen("large_disks") {
+        largest_live_disk(host, seed);
+        unfit_large_disks(host, seed);
     }
     if chosen("years") {
         hundred_years(host, seed, part(5_218), 261);

@@ -1,16 +1,19 @@
 //! Writes the cases to standard output, for a host in another language. Every number is eight bytes,
 //! least significant first; an area is its length and its bytes. Records:
-//! L head branches records places names slab lend areas of these bytes
-//! Y head branches records places names slab lend a copy, laid onto these bytes
-//! F size result                             a fresh store
+//! L areas                              lend areas of these bytes: head, branches, records, places, names, slab, disk, marks
+//! Y areas                              lend a copy, laid onto these bytes, and make every page stale
+//! F size result                        a fresh store
+//! M                                    every page is made stale
 //! B batch area stop answered request-bytes answer-bytes rows-read after    a batch
-//! C head branches records places names slab the lent areas as they must be
-//! E name                                    the end of a family
-//! N line                                    more to say of it
-//! Z differences                             the end: differences between reference and pile of pictures
+//! R address result area offset page    a live read; the page is an area of no bytes where there is none
+//! S budget result copied               a copying step
+//! C areas                              the lent areas as they must be
+//! E name                               the end of a family
+//! N line                               more to say of it
+//! Z differences                        the end: differences between reference and pile of pictures
 
 use cases::Host;
-use reference::{Areas, Report};
+use reference::{Areas, LiveRead, Report, Step};
 use std::io::{BufWriter, StdoutLock, Write};
 
 struct Written {
@@ -40,7 +43,7 @@ impl Written {
     }
 
     fn areas(&mut self, areas: &Areas) {
-        for area in [&areas.head, &areas.branches, &areas.records, &areas.places, &areas.names, &areas.slab] {
+        for area in cases::list(areas) {
             self.area(area);
         }
     }
@@ -63,6 +66,10 @@ impl Host for Written {
         self.number(u64::from(result));
     }
 
+    fn make_stale(&mut self) {
+        self.tag(b'M');
+    }
+
     fn batch(&mut self, batch: &[u8], before: &[u8], report: &Report, after: &[u8]) {
         self.tag(b'B');
         self.area(batch);
@@ -73,6 +80,22 @@ impl Host for Written {
         self.number(report.answer_bytes);
         self.number(report.rows_read);
         self.area(after);
+    }
+
+    fn live_read(&mut self, address: u32, told: &LiveRead, page: &[u8]) {
+        self.tag(b'R');
+        self.number(u64::from(address));
+        self.number(u64::from(told.refusal));
+        self.number(u64::from(told.area));
+        self.number(told.offset);
+        self.area(page);
+    }
+
+    fn copy_step(&mut self, budget: u32, told: &Step) {
+        self.tag(b'S');
+        self.number(u64::from(budget));
+        self.number(u64::from(told.refusal));
+        self.number(told.copied);
     }
 
     fn compare(&mut self, areas: &Areas) {

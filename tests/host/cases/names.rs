@@ -241,6 +241,7 @@ impl Draft {
             assert_eq!(report.stop, stop);
         }
         assert!(run.areas == self.areas, "a batch serves its requests as one batch for each would");
+        run.live_calls(draw, pile);
         self.seen
     }
 }

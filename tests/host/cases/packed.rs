@@ -166,6 +166,7 @@ impl Draft {
         let area = draw.bytes(most_answer_bytes(&self.bytes));
         run.batch_beside(pile, &self.bytes, &area);
         assert!(run.areas == self.areas, "a batch serves its requests as one batch for each would");
+        run.live_calls(draw, pile);
         self.told
     }
 }

@@ -19,10 +19,12 @@ pub fn drawn_count(draw: &mut Draw) -> usize {
     }) as usize
 }
 
+/// The live disk has 256 bytes for each page: large sizes are rare here, and have families of their own.
 pub fn drawn_sizes(draw: &mut Draw) -> Sizes {
-    let size = match draw.below(10) {
+    let size = match draw.below(20_000) {
         0 => 65_536,
-        1 => draw.within(1, 65_536),
+        1..=9 => draw.within(1, 4_000),
+        10..=1_000 => draw.within(1, 100),
         _ => draw.within(1, 8),
     } as u32;
     let records = drawn_count(draw);
@@ -30,7 +32,21 @@ pub fn drawn_sizes(draw: &mut Draw) -> Sizes {
     Sizes { size, branches: drawn_count(draw), records, places }
 }
 
+/// A live disk of so many pages, and its marks: zeros, every page stale; any bytes and every page stale, some of them with
+/// blank marks; any bytes and any marks.
+fn drawn_disk(draw: &mut Draw, size: u32) -> (Vec<u8>, Vec<u8>) {
+    let size = size as usize;
+    let kind = draw.below(4);
+    if kind == 0 {
+        return (vec![0; PAGE * size], vec![0; size]);
+    }
+    let allowed = if kind == 3 { CURRENT + BLANK } else { BLANK };
+    let marks = draw.bytes(size).into_iter().map(|mark| mark & allowed).collect();
+    (draw.bytes(PAGE * size), marks)
+}
+
 pub fn drawn_areas(draw: &mut Draw, sizes: &Sizes) -> Areas {
+    let (disk, marks) = drawn_disk(draw, sizes.size);
     Areas {
         head: draw.bytes(HEAD_BYTES),
         branches: draw.bytes(BRANCH_BYTES * sizes.branches),
@@ -38,6 +54,8 @@ pub fn drawn_areas(draw: &mut Draw, sizes: &Sizes) -> Areas {
         places: draw.bytes(PLACE_BYTES * sizes.places),
         names: draw.bytes(NAME_ROW_BYTES * MOST_NAMES),
         slab: draw.bytes(PAGE * sizes.places),
+        disk,
+        marks,
     }
 }
 
@@ -246,7 +264,9 @@ pub fn area_of(areas: &mut Areas, index: u64) -> &mut Vec<u8> {
         2 => &mut areas.records,
         3 => &mut areas.places,
         4 => &mut areas.names,
-        _ => &mut areas.slab,
+        5 => &mut areas.slab,
+        6 => &mut areas.disk,
+        _ => &mut areas.marks,
     }
 }
 
@@ -303,11 +323,12 @@ fn swap_rows(draw: &mut Draw, areas: &mut Areas) {
 
 /// Changes the length of one area: by bytes, by numbers, by rows, or to none at all.
 fn change_length(draw: &mut Draw, areas: &mut Areas) {
-    let which = draw.below(6);
+    let which = draw.below(8);
     let width = match which {
         0 => 24,
         1 | 2 | 4 => 12,
         3 => 4,
+        7 => 1,
         _ => 256,
     };
     let by = match draw.below(4) {
@@ -331,6 +352,24 @@ fn change_length(draw: &mut Draw, areas: &mut Areas) {
     if which == 3 && draw.percent(50) {
         let length = 64 * areas.places.len();
         areas.slab.resize(length, 0xA5);
+    }
+    // Sometimes live disk and marks are those of another volume size.
+    if which == 7 && draw.percent(50) {
+        areas.disk.resize(PAGE * areas.marks.len(), 0xA5);
+    }
+}
+
+/// Marks of any value, most of them above 3; or one of them.
+fn change_marks(draw: &mut Draw, areas: &mut Areas) {
+    if areas.marks.is_empty() {
+        return;
+    }
+    let last = areas.marks.len() as u64 - 1;
+    for _ in 0..draw.one_of(&[1, 1, 1, 2, 9]) {
+        let (any, any_mark) = (draw.below(last + 1), draw.below(256));
+        let address = draw.one_of(&[0, last / 2, last, any]);
+        let mark = draw.one_of(&[3, 4, 5, 7, 128, 255, any_mark]);
+        areas.marks[address as usize] = mark as u8;
     }
 }
 
@@ -370,7 +409,8 @@ fn change_names(draw: &mut Draw, areas: &mut Areas) {
 }
 
 pub fn damage(draw: &mut Draw, areas: &mut Areas) {
-    match draw.below(12) {
+    match draw.below(13) {
+        12 => change_marks(draw, areas),
         10 | 11 => {
             for _ in 0..draw.one_of(&[1, 1, 1, 2, 3]) {
                 change_names(draw, areas);

@@ -111,6 +111,18 @@ impl Host for Counting<'_> {
         self.host.fresh(size, result);
     }
 
+    fn make_stale(&mut self) {
+        self.host.make_stale();
+    }
+
+    fn live_read(&mut self, address: u32, told: &LiveRead, page: &[u8]) {
+        self.host.live_read(address, told, page);
+    }
+
+    fn copy_step(&mut self, budget: u32, told: &Step) {
+        self.host.copy_step(budget, told);
+    }
+
     fn batch(&mut self, batch: &[u8], before: &[u8], report: &Report, after: &[u8]) {
         self.host.batch(batch, before, report, after);
     }

@@ -104,6 +104,7 @@ fn operate(host: &mut dyn Host, draw: &mut Draw, operator: &Operator, weeks: u64
             full = Some(week + 1);
         }
         if week % 13 % 4 == 3 || week + 1 == weeks {
+            run.live_calls(draw, pile);
             run.host.compare(&run.areas);
             if let Some(what) = pile.as_ref().and_then(|pile| pile.difference(&run.areas)) {
                 run.host.pile_differs(&what);

@@ -1,4 +1,4 @@
-//! Writes requests and answers to standard output, each with its bytes, place tables and name tables, for the test of
+//! Writes requests and answers to standard output, each with its bytes, place tables, name tables and marks, for the test of
 //! include/kizmoolet_requests.h. Every number is eight bytes, least significant first; an area is its length and its bytes.
 //! Records:
 //! K numbers                                   the reference's sizes
@@ -8,6 +8,7 @@
 //!                                             empty if there is none
 //! S places in-use                             a place table, and up to which byte the slab is in use
 //! N head names name row                       a head and a name table, and the row that has this name, or how many there are
+//! M marks stale after                         the marks of a live disk, how many pages are stale, and the marks once all are
 //! Z                                           the end
 
 use reference::*;
@@ -185,6 +186,39 @@ fn all_name_tables(out: &mut Out, drawn: &mut Drawn) {
     }
 }
 
+/// The marks as they are; stale are those whose lowest bit is not set, and once all are, the blank marks are left.
+fn table_of_marks(out: &mut Out, marks: &[u8]) {
+    let after: Vec<u8> = marks.iter().map(|mark| mark & BLANK).collect();
+    out.bytes(b"M");
+    out.area(marks);
+    out.number(marks.iter().filter(|mark| **mark & CURRENT == 0).count() as u64);
+    out.area(&after);
+}
+
+/// Up to five pages with every mark; more with any; one mark of any byte among others; the largest live disk.
+fn all_tables_of_marks(out: &mut Out, drawn: &mut Drawn) {
+    for length in 0..6_u32 {
+        for number in 0..4_u32.pow(length) {
+            let marks: Vec<u8> = (0..length).map(|at| (number >> (2 * at) & 3) as u8).collect();
+            table_of_marks(out, &marks);
+        }
+    }
+    for length in 6..600_u64 {
+        for _ in 0..10 {
+            let marks: Vec<u8> = (0..length).map(|_| drawn.next() as u8 & 3).collect();
+            table_of_marks(out, &marks);
+        }
+    }
+    for byte in 0..=255 {
+        for others in 0..4 {
+            table_of_marks(out, &[others, byte, others]);
+        }
+    }
+    for byte in 0..4 {
+        table_of_marks(out, &vec![byte; LARGEST_SIZE as usize]);
+    }
+}
+
 fn main() {
     let seed = std::env::args().nth(1).and_then(|word| word.parse().ok()).expect("a seed");
     let mut drawn = Drawn(seed);
@@ -200,6 +234,9 @@ fn main() {
     out.number(u64::from(OPEN_END));
     for length in [ANSWER_BYTES, DATE_BYTES, PAGE_ANSWER_BYTES] {
         out.number(length as u64);
+    }
+    for number in [u32::from(CURRENT), u32::from(BLANK), AREA_NONE, AREA_DISK, AREA_SLAB] {
+        out.number(u64::from(number));
     }
     for operation in 1..=7 {
         // No bit, all bits, each bit alone, each bit missing, and any.
@@ -231,6 +268,7 @@ fn main() {
     }
     all_place_tables(&mut out, &mut drawn);
     all_name_tables(&mut out, &mut drawn);
+    all_tables_of_marks(&mut out, &mut drawn);
     out.bytes(b"Z");
     if out.0.flush().is_err() {
         std::process::exit(2);

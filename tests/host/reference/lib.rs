@@ -1,4 +1,4 @@
-//! The page history store of document 01, with change requests One to Five of document 02, written from
+//! The page history store of document 01, with change requests One to Six of document 02, written from
 //! these documents alone and as plainly as they read. It works on the same byte areas as the library that
 //! it is compared with: every number of head and tables is four bytes, most significant first. Each batch
 //! turns the bytes into rows, checks them, serves the requests on the rows and turns the rows back into
@@ -22,6 +22,13 @@ pub const MOST_RECORDS: usize = 65_536;
 pub const MOST_PLACES: usize = 65_536;
 pub const MOST_NAMES: usize = 32;
 pub const LARGEST_SIZE: u32 = 65_536;
+/// The mark of a page of the live disk: 1 if it is current, plus 2 if it is blank.
+pub const CURRENT: u8 = 1;
+pub const BLANK: u8 = 2;
+/// Where the page of a live read lies: nowhere, on the live disk, in the slab.
+pub const AREA_NONE: u32 = 0;
+pub const AREA_DISK: u32 = 1;
+pub const AREA_SLAB: u32 = 2;
 
 /// With fewer readable moments and fewer records than this a reclaim tries every moment, as the document
 /// defines it. Else it goes by branch; `kept_by_branch` says why that is the same.
@@ -59,7 +66,7 @@ pub struct Name {
     pub moment: u32,
 }
 
-/// The six lent areas.
+/// The lent areas: the six of the store, the live disk, and its marks.
 #[derive(Clone, Debug, PartialEq, Eq, Default)]
 pub struct Areas {
     pub head: Vec<u8>,
@@ -68,6 +75,8 @@ pub struct Areas {
     pub places: Vec<u8>,
     pub names: Vec<u8>,
     pub slab: Vec<u8>,
+    pub disk: Vec<u8>,
+    pub marks: Vec<u8>,
 }
 
 /// What a batch reports.
@@ -78,6 +87,21 @@ pub struct Report {
     pub request_bytes: u64,
     pub answer_bytes: u64,
     pub rows_read: u64,
+}
+
+/// What a live read tells: a refusal, or 0 and where the page lies. Without a page area and offset are 0.
+#[derive(Clone, Copy, Debug, PartialEq, Eq, Default)]
+pub struct LiveRead {
+    pub refusal: u32,
+    pub area: u32,
+    pub offset: u64,
+}
+
+/// What a copying step tells: a refusal, or 0 and how many pages it brought to date.
+#[derive(Clone, Copy, Debug, PartialEq, Eq, Default)]
+pub struct Step {
+    pub refusal: u32,
+    pub copied: u64,
 }
 
 #[derive(Clone, Debug, PartialEq, Eq)]
@@ -152,6 +176,8 @@ pub struct Store {
     pub places: Vec<u32>,
     pub names: Vec<Name>,
     pub slab: Vec<u8>,
+    pub disk: Vec<u8>,
+    pub marks: Vec<u8>,
 }
 
 fn lengths_allowed(areas: &Areas) -> bool {
@@ -196,9 +222,18 @@ fn rows_of(areas: &mut Areas) -> Store {
     for row in areas.names.chunks_exact(NAME_ROW_BYTES) {
         names.push(Name { bytes: name_at(row), moment: number_at(row, 2) });
     }
-    // The slab is handed over and back, since it may be large.
+    // Slab and live disk are handed over and back, since they may be large.
     let slab = std::mem::take(&mut areas.slab);
-    Store { head, branches, records, places, names, slab }
+    let disk = std::mem::take(&mut areas.disk);
+    let marks = std::mem::take(&mut areas.marks);
+    Store { head, branches, records, places, names, slab, disk, marks }
+}
+
+/// Hands slab and live disk back.
+fn hand_back(store: Store, areas: &mut Areas) {
+    areas.slab = store.slab;
+    areas.disk = store.disk;
+    areas.marks = store.marks;
 }
 
 fn bytes_of(store: Store, areas: &mut Areas) {
@@ -225,7 +260,7 @@ fn bytes_of(store: Store, areas: &mut Areas) {
         row[..NAME_BYTES].copy_from_slice(&name.bytes);
         set_number_at(row, 2, name.moment);
     }
-    areas.slab = store.slab;
+    hand_back(store, areas);
 }
 
 /// The page of a record, dated with the record's moment.
@@ -249,7 +284,7 @@ pub fn slab_in_use(places: &[u8]) -> usize {
 // ---------------------------------------------------------------------------------------------
 // A fresh store
 
-/// Makes a fresh store in the areas; the result is 0, or refusal 1 with nothing changed.
+/// Makes a fresh store in the areas; the result is 0, or refusal 1 with nothing changed. Live disk and marks are left.
 pub fn fresh(size: u32, areas: &mut Areas) -> u32 {
     if !(1..=LARGEST_SIZE).contains(&size) || !lengths_allowed(areas) {
         return 1;
@@ -364,8 +399,14 @@ impl Store {
         self.places.iter().filter(|place| **place != 0).count()
     }
 
-    /// The check before a batch: 0, or the refusal 1, 2 or 3, the lowest that holds; and how many record rows it read
-    /// (document 02, Five): up to and including the first that breaks a rule, else all; 0 where 1 or 2 refuses.
+    /// The live disk has 256 bytes for each page, and a mark for each, none above 3.
+    fn disk_fits(&self) -> bool {
+        let size = self.head.size as usize;
+        self.disk.len() == PAGE * size && self.marks.len() == size && self.marks.iter().all(|mark| *mark <= 3)
+    }
+
+    /// The check before a call: 0, or the refusal 1, 2, 3 or 18, the first in this order that holds; and how many record rows
+    /// it read (document 02, Five): up to and including the first that breaks a rule, else all; 0 where 1 or 2 refuses.
     fn check(&self) -> (u32, usize) {
         if !self.head_allowed() {
             return (1, 0);
@@ -377,6 +418,7 @@ impl Store {
         match (0..all).find(|row| self.record_breaks(*row)) {
             Some(row) => (3, row + 1),
             None if self.places_in_use() != all => (3, all),
+            None if !self.disk_fits() => (18, all),
             None => (0, all),
         }
     }
@@ -641,6 +683,7 @@ impl Store {
             }
         };
         self.slab[PAGE * place..PAGE * place + PAGE].copy_from_slice(page);
+        self.put_on_disk(address, page);
     }
 
     fn revert(&mut self, moment: u32) {
@@ -649,6 +692,64 @@ impl Store {
         self.head.now += 1;
         self.branches[count] = Branch { start: self.head.now, end: OPEN_END, cut: moment };
         self.head.branch_count += 1;
+        self.make_stale();
+    }
+
+    // -----------------------------------------------------------------------------------------
+    // The live disk
+
+    /// The page is then current and not blank.
+    fn put_on_disk(&mut self, address: u32, page: &[u8]) {
+        let at = PAGE * address as usize;
+        self.disk[at..at + PAGE].copy_from_slice(page);
+        self.marks[address as usize] = CURRENT;
+    }
+
+    /// Every page is then stale; the disk's bytes and the blank marks stay.
+    fn make_stale(&mut self) {
+        for mark in &mut self.marks {
+            *mark &= BLANK;
+        }
+    }
+
+    fn is_current(&self, address: u32) -> bool {
+        self.marks[address as usize] & CURRENT != 0
+    }
+
+    /// Where the page of an address below A lies: area and offset.
+    fn live_page(&self, address: u32) -> (u32, u64) {
+        let on_disk = PAGE as u64 * u64::from(address);
+        if self.is_current(address) {
+            let blank = self.marks[address as usize] & BLANK != 0;
+            return if blank { (AREA_NONE, 0) } else { (AREA_DISK, on_disk) };
+        }
+        match self.find(address, self.head.now) {
+            Some(row) => (AREA_SLAB, PAGE as u64 * u64::from(self.records[row].place)),
+            None => (AREA_NONE, 0),
+        }
+    }
+
+    /// A page brought to date as blank keeps its bytes.
+    fn bring_to_date(&mut self, address: u32) {
+        match self.find(address, self.head.now) {
+            Some(row) => {
+                let page = dated_page(&self.records[row], &self.slab).page;
+                self.put_on_disk(address, &page);
+            }
+            None => self.marks[address as usize] = CURRENT + BLANK,
+        }
+    }
+
+    /// Brings up to so many stale pages to date, lowest address first; how many.
+    fn copy_step(&mut self, budget: u32) -> u64 {
+        let mut copied = 0;
+        for address in 0..self.head.size {
+            if copied < u64::from(budget) && !self.is_current(address) {
+                self.bring_to_date(address);
+                copied += 1;
+            }
+        }
+        copied
     }
 
     // -----------------------------------------------------------------------------------------
@@ -839,7 +940,58 @@ pub fn answer_bytes(answer: &Answer) -> Vec<u8> {
 }
 
 // ---------------------------------------------------------------------------------------------
-// A batch
+// The three calls
+
+/// The store in these areas, with slab and live disk handed over, or the refusal; and how many record rows the check read.
+fn checked(areas: &mut Areas) -> (Result<Store, u32>, usize) {
+    if !lengths_allowed(areas) {
+        return (Err(1), 0);
+    }
+    let store = rows_of(areas);
+    let (refused, rows_read) = store.check();
+    if refused != 0 {
+        hand_back(store, areas);
+        return (Err(refused), rows_read);
+    }
+    (Ok(store), rows_read)
+}
+
+/// Where the page of an address lies, as it is at now. Nothing is changed: slab and live disk are only handed over and back.
+pub fn live_read(areas: &mut Areas, address: u32) -> LiveRead {
+    let store = match checked(areas).0 {
+        Ok(store) => store,
+        Err(refusal) => return LiveRead { refusal, ..LiveRead::default() },
+    };
+    let told = if address >= store.head.size {
+        LiveRead { refusal: 4, ..LiveRead::default() }
+    } else {
+        let (area, offset) = store.live_page(address);
+        LiveRead { refusal: 0, area, offset }
+    };
+    hand_back(store, areas);
+    told
+}
+
+/// The 256 bytes that a live read told of.
+pub fn page_told(areas: &Areas, told: &LiveRead) -> Option<Vec<u8>> {
+    let from = told.offset as usize;
+    match told.area {
+        AREA_DISK => Some(areas.disk[from..from + PAGE].to_vec()),
+        AREA_SLAB => Some(areas.slab[from..from + PAGE].to_vec()),
+        _ => None,
+    }
+}
+
+/// A copying step: changes live disk and marks alone.
+pub fn copy_step(areas: &mut Areas, budget: u32) -> Step {
+    let mut store = match checked(areas).0 {
+        Ok(store) => store,
+        Err(refusal) => return Step { refusal, ..Step::default() },
+    };
+    let copied = store.copy_step(budget);
+    hand_back(store, areas);
+    Step { refusal: 0, copied }
+}
 
 /// Runs one batch over the areas and the answer area.
 pub fn batch(areas: &mut Areas, batch: &[u8], answers: &mut [u8]) -> Report {
@@ -864,16 +1016,15 @@ pub fn batch_followed(
     mut follow: impl FnMut(&Store, &Change),
     mut watch: impl FnMut(&Request, &Answer),
 ) -> Report {
-    if !lengths_allowed(areas) {
-        return Report { stop: 1, ..Report::default() };
-    }
-    let mut store = rows_of(areas);
-    let (refused, rows_read) = store.check();
-    let mut report = Report { stop: refused, rows_read: rows_read as u64, ..Report::default() };
-    if refused != 0 {
-        areas.slab = store.slab;
-        return report;
-    }
+    let (store, rows_read) = checked(areas);
+    let mut report = Report { rows_read: rows_read as u64, ..Report::default() };
+    let mut store = match store {
+        Ok(store) => store,
+        Err(refused) => {
+            report.stop = refused;
+            return report;
+        }
+    };
     loop {
         let left = &batch[report.request_bytes as usize..];
         if left.is_empty() {
@@ -905,21 +1056,20 @@ pub fn batch_followed(
     report
 }
 
-/// The check of the areas alone: 0, 1, 2 or 3.
+/// The check of the areas alone: 0, 1, 2, 3 or 18.
 pub fn check(areas: &Areas) -> u32 {
     batch(&mut areas.clone(), &[], &mut []).stop
 }
 
-/// The store in areas that pass the check, as rows, without the slab.
+/// The store in areas that pass the check, as rows, without the slab and the live disk.
 pub fn rows(areas: &Areas) -> Store {
-    let slab = Vec::new();
     let mut tables = Areas {
         head: areas.head.clone(),
         branches: areas.branches.clone(),
         records: areas.records.clone(),
         places: areas.places.clone(),
         names: areas.names.clone(),
-        slab,
+        ..Areas::default()
     };
     rows_of(&mut tables)
 }

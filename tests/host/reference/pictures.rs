@@ -1,7 +1,7 @@
 //! The pile of pictures of document 01, with the names of document 02, Three: a whole picture for each moment.
 //! It is fed the answered requests and, of each answer, only whether it is a refusal.
 
-use crate::{dated_page, Answer, Areas, DatedPage, Name, Request};
+use crate::{dated_page, live_read, page_told, Answer, Areas, DatedPage, Name, Request};
 use std::collections::BTreeSet;
 use std::rc::Rc;
 
@@ -100,8 +100,21 @@ impl Pile {
         shown
     }
 
-    fn page(&self, address: u32, moment: u32) -> Option<&DatedPage> {
+    pub fn page(&self, address: u32, moment: u32) -> Option<&DatedPage> {
         self.pictures[moment as usize][address as usize].as_deref()
+    }
+
+    /// Compares every live read with picture now, as document 02 claims it in Six where every page began stale: the first
+    /// difference, if any.
+    pub fn live_difference(&self, areas: &mut Areas) -> Option<String> {
+        for address in 0..self.pictures[0].len() as u32 {
+            let told = live_read(areas, address);
+            let due = self.page(address, self.now).map(|found| &found.page);
+            if told.refusal != 0 || page_told(areas, &told).as_ref() != due {
+                return Some(format!("live page at address {address}, now {}", self.now));
+            }
+        }
+        None
     }
 
     /// Compares a store with the pile, as the document claims it after every list: the first

@@ -10,11 +10,15 @@ fn areas(branches: usize, records: usize, places: usize) -> Areas {
         places: vec![0xEE; PLACE_BYTES * places],
         names: vec![0xEE; NAME_ROW_BYTES * MOST_NAMES],
         slab: vec![0xEE; PAGE * places],
+        ..Areas::default()
     }
 }
 
+/// A fresh store, with a live disk on which every page is stale.
 fn made(size: u32, branches: usize, records: usize, places: usize) -> Areas {
     let mut areas = areas(branches, records, places);
+    areas.disk = vec![b'.'; PAGE * size as usize];
+    areas.marks = vec![0; size as usize];
     assert_eq!(fresh(size, &mut areas), 0);
     areas
 }
@@ -1014,4 +1018,287 @@ fn rows_read_before_a_batch() {
     assert_eq!(batch(&mut store, &write(0, b'A'), &mut area).rows_read, 3);
     assert_eq!(batch(&mut store, &reclaim(9), &mut area).rows_read, 4);
     assert_eq!(batch(&mut store, &[], &mut area).rows_read, u64::from(number_at(&store.head, 2)));
+}
+
+// ---------------------------------------------------------------------------------------------
+// Document 02, Six: the live disk behind the history
+
+/// The live disk: of each page its letter, and its mark.
+fn disk_of(areas: &Areas) -> String {
+    let pages = areas.disk.chunks_exact(PAGE).zip(&areas.marks);
+    let told = |(page, mark): (&[u8], &u8)| {
+        assert!(page.iter().all(|byte| *byte == page[0]));
+        format!("{}{mark}", page[0] as char)
+    };
+    pages.map(told).collect::<Vec<_>>().join(" ")
+}
+
+/// A live read of every address: d and the letter of a page on the disk, s and that of one in the slab, a dash where there is
+/// none. It changes nothing, and its page is that of a read at now, if this is said.
+fn live_of(areas: &mut Areas, as_read: bool) -> String {
+    let (before, now) = (areas.clone(), now_of(areas));
+    let mut list = Vec::new();
+    for address in 0..number_at(&areas.head, 0) {
+        let told = live_read(areas, address);
+        assert_eq!((told.refusal, &before), (0, &*areas));
+        let page = page_told(areas, &told);
+        assert!(page.is_some() || (told.area, told.offset) == (AREA_NONE, 0));
+        let letter = page.map(|page| page[0]);
+        if as_read {
+            let read = answers(&mut areas.clone(), &[read(u64::from(address), now)])[0];
+            assert_eq!((letter, 0), (read.2.map(|found| found.0), read.0));
+        }
+        list.push(match (told.area, letter) {
+            (AREA_DISK, Some(letter)) => format!("d{}", letter as char),
+            (AREA_SLAB, Some(letter)) => format!("s{}", letter as char),
+            _ => "-".to_string(),
+        });
+    }
+    list.join(" ")
+}
+
+/// An accepted copying step: how many pages it brought to date. It changes nothing but live disk and marks.
+fn step(areas: &mut Areas, budget: u32) -> u64 {
+    let before = areas.clone();
+    let told = copy_step(areas, budget);
+    assert_eq!(told.refusal, 0);
+    assert_eq!(Areas { disk: areas.disk.clone(), marks: areas.marks.clone(), ..before }, *areas);
+    told.copied
+}
+
+/// Four pages, of which 0 to 2 are written.
+fn a_live_disk() -> Areas {
+    let mut store = made(4, 4, 12, 12);
+    answers(&mut store, &[write(0, b'A'), write(1, b'B'), write(2, b'C'), mark()]);
+    store
+}
+
+#[test]
+fn a_write_goes_to_both() {
+    let mut store = made(4, 4, 12, 12);
+    store.marks.copy_from_slice(&[0, 2, 3, 1]);
+    answers(&mut store, &[write(0, b'A'), write(1, b'B'), write(2, b'C')]);
+    assert_eq!((disk_of(&store), slab_letters(&store)), ("A1 B1 C1 .1".to_string(), "ABC.........".to_string()));
+    answers(&mut store, &[write(0, b'D'), write(3, b'E'), mark(), write(3, b'F')]);
+    assert_eq!((disk_of(&store), slab_letters(&store)), ("D1 B1 C1 F1".to_string(), "DBCEF.......".to_string()));
+    assert_eq!(live_of(&mut store, true), "dD dB dC dF");
+}
+
+#[test]
+fn a_revert_makes_every_page_stale() {
+    let mut store = a_live_disk();
+    answers(&mut store, &[write(0, b'D')]);
+    assert_eq!(step(&mut store, 1), 1);
+    assert_eq!((disk_of(&store), live_of(&mut store, true)), ("D1 B1 C1 .3".to_string(), "dD dB dC -".to_string()));
+    // The disk's bytes and the blank marks stay, and live reads go by the stored pages.
+    answers(&mut store, &[revert(0)]);
+    assert_eq!((disk_of(&store), live_of(&mut store, true)), ("D0 B0 C0 .2".to_string(), "sA sB sC -".to_string()));
+    // A write to a stale page, a copying step, and the revert undone while the disk is partly copied.
+    answers(&mut store, &[write(2, b'E')]);
+    assert_eq!(step(&mut store, 1), 1);
+    assert_eq!((disk_of(&store), live_of(&mut store, true)), ("A1 B0 E1 .2".to_string(), "dA sB dE -".to_string()));
+    answers(&mut store, &[revert(1)]);
+    assert_eq!((disk_of(&store), live_of(&mut store, true)), ("A0 B0 E0 .2".to_string(), "sD sB sC -".to_string()));
+    assert_eq!(step(&mut store, 9), 4);
+    assert_eq!((disk_of(&store), live_of(&mut store, true)), ("D1 B1 C1 .3".to_string(), "dD dB dC -".to_string()));
+}
+
+/// Requests that are no writes and reverts, refused ones, and what stops a batch.
+#[test]
+fn all_else_leaves_the_live_disk() {
+    let mut store = a_live_disk();
+    answers(&mut store, &[write(3, b'D'), revert(0), write(1, b'E')]);
+    assert_eq!(step(&mut store, 2), 2);
+    answers(&mut store, &[write(0, b'F'), mark(), name(0, b'n')]);
+    let due = "F1 E1 C1 D0";
+    assert_eq!(disk_of(&store), due);
+    let leaves = |requests: &[Vec<u8>], refusals: &[u32]| {
+        let mut after = store.clone();
+        let told: Vec<u32> = answers(&mut after, requests).iter().map(|answer| answer.0).collect();
+        assert_eq!((told.as_slice(), disk_of(&after).as_str()), (refusals, due));
+    };
+    leaves(&[mark(), read(0, 3), reclaim(2), name(2, b'm'), withdraw(b'n')], &[0; 5]);
+    leaves(&[write(4, b'x'), revert(4), name(0, b'n'), withdraw(b'x'), read(4, 3), reclaim(5)], &[4, 9, 15, 17, 4, 9]);
+    leaves(&[reclaim(3), revert(1), revert(3)], &[0, 8, 9]);
+    let mut last = store.clone();
+    set_number_at(&mut last.head, 3, OPEN_END);
+    assert_eq!(answers(&mut last, &[mark(), revert(0)]), [(10, 0, None), (10, 0, None)]);
+    assert_eq!(disk_of(&last), due);
+    // Not carried out for want of space: a write, a revert; and what cannot be read.
+    for (bytes, stop) in [
+        (write(3, b'x'), 14),
+        (revert(0), 14),
+        (write(3, b'x')[..262].to_vec(), 11),
+        (vec![0; 7], 12),
+        (packed(3, 1, 0), 13),
+    ] {
+        let mut after = store.clone();
+        assert_eq!(batch(&mut after, &bytes, &mut [0; 4]).stop, stop);
+        assert_eq!(after, store);
+    }
+}
+
+#[test]
+fn full_tables_leave_the_live_disk() {
+    let mut store = made(2, 1, 1, 2);
+    assert_eq!(answers(&mut store, &[write(0, b'A'), write(1, b'B'), mark(), revert(0)])[1], (5, 0, None));
+    assert_eq!(disk_of(&store), "A1 .0");
+    let mut store = made(2, 1, 2, 1);
+    let told = answers(&mut store, &[write(0, b'A'), write(1, b'B'), mark(), revert(0)]);
+    assert_eq!((told[1].0, told[3].0, disk_of(&store).as_str()), (6, 7, "A1 .0"));
+}
+
+#[test]
+fn a_fresh_store_leaves_the_live_disk() {
+    let mut store = a_live_disk();
+    assert_eq!(step(&mut store, 1), 1);
+    assert_eq!(fresh(4, &mut store), 0);
+    assert_eq!((disk_of(&store), live_of(&mut store, false)), ("A1 B1 C1 .3".to_string(), "dA dB dC -".to_string()));
+    // Made stale by the caller.
+    store.marks.copy_from_slice(&[0, 0, 0, 2]);
+    assert_eq!(live_of(&mut store, true), "- - - -");
+    assert_eq!((step(&mut store, 3), disk_of(&store)), (3, "A3 B3 C3 .2".to_string()));
+}
+
+/// Whatever the marks are: of the disk if current, empty if blank; else of the stored pages, whatever the blank mark.
+#[test]
+fn live_reads_of_each_mark() {
+    let mut store = a_live_disk();
+    store.disk.fill(b'x');
+    for (marks, due) in [([0, 1, 2, 0], "sA dx sC -"), ([2, 3, 0, 2], "sA - sC -"), ([1, 1, 3, 1], "dx dx - dx")] {
+        store.marks.copy_from_slice(&marks);
+        assert_eq!(live_of(&mut store, false), due);
+    }
+    let told = [0, 1, 2, 3].map(|address| live_read(&mut store, address));
+    let told = told.map(|told| (told.refusal, told.area, told.offset));
+    assert_eq!(told, [(0, 1, 0), (0, 1, 256), (0, 0, 0), (0, 1, 768)]);
+    store.marks.fill(0);
+    assert_eq!(live_read(&mut store, 2), LiveRead { refusal: 0, area: 2, offset: 512 });
+    for address in [4, 5, 65_535, 65_536, 65_538, OPEN_END] {
+        assert_eq!(live_read(&mut store, address), LiveRead { refusal: 4, area: 0, offset: 0 });
+    }
+}
+
+#[test]
+fn steps_bring_the_lowest_stale_pages_to_date() {
+    let mut store = a_live_disk();
+    store.disk.fill(b'x');
+    store.marks.copy_from_slice(&[2, 1, 0, 2]);
+    assert_eq!((step(&mut store, 0), disk_of(&store)), (0, "x2 x1 x0 x2".to_string()));
+    assert_eq!((step(&mut store, 1), disk_of(&store)), (1, "A1 x1 x0 x2".to_string()));
+    // A page brought to date as blank is counted, and keeps its bytes.
+    assert_eq!((step(&mut store, 2), disk_of(&store)), (2, "A1 x1 C1 x3".to_string()));
+    assert_eq!((step(&mut store, OPEN_END), disk_of(&store)), (0, "A1 x1 C1 x3".to_string()));
+    store.marks.fill(2);
+    assert_eq!((step(&mut store, OPEN_END), disk_of(&store)), (4, "A1 B1 C1 x3".to_string()));
+}
+
+/// With n at least 1 A divided by n, rounded up, steps leave none stale, whatever comes among them that is no revert.
+#[test]
+fn so_many_steps_leave_none_stale() {
+    for budget in 1..7 {
+        let mut store = a_live_disk();
+        answers(&mut store, &[write(1, b'D'), revert(0)]);
+        for turn in 0..(4 + budget - 1) / budget {
+            assert!(store.marks.iter().any(|mark| mark & CURRENT == 0));
+            step(&mut store, budget);
+            answers(&mut store, &[read(0, 2), mark(), write(u64::from(turn % 2), b'E'), reclaim(2)]);
+            live_of(&mut store, true);
+        }
+        assert!(store.marks.iter().all(|mark| mark & CURRENT != 0), "budget {budget}");
+    }
+}
+
+/// 18 after 1, 2 and 3, in all three calls; nothing is written, and all record rows were read.
+#[test]
+fn refusal_18() {
+    let sound = {
+        let mut store = three_records();
+        store.marks.copy_from_slice(&[0, 1, 2, 3, 0, 1]);
+        store
+    };
+    let refused = |areas: &Areas, due: (u32, u64)| {
+        let mut after = areas.clone();
+        let mut area = [0x77; 300];
+        let report = Report { stop: due.0, rows_read: due.1, ..Report::default() };
+        assert_eq!(batch(&mut after, &write(0, b'x'), &mut area), report);
+        for address in [0, 5, 6, 70_000] {
+            assert_eq!(live_read(&mut after, address), LiveRead { refusal: due.0, area: 0, offset: 0 });
+        }
+        for budget in [0, 1, 6, OPEN_END] {
+            assert_eq!(copy_step(&mut after, budget), Step { refusal: due.0, copied: 0 });
+        }
+        assert!(after == *areas && area == [0x77; 300]);
+    };
+    assert_eq!(told(&sound), (0, 3));
+    let unfit: [fn(&mut Areas); 11] = [
+        |areas| areas.disk.clear(),
+        |areas| areas.disk.truncate(256 * 6 - 1),
+        |areas| areas.disk.truncate(256 * 5),
+        |areas| areas.disk.push(0),
+        |areas| areas.disk.resize(256 * 7, 0),
+        |areas| areas.marks.clear(),
+        |areas| areas.marks.truncate(5),
+        |areas| areas.marks.push(0),
+        |areas| areas.marks[0] = 4,
+        |areas| areas.marks[3] = 255,
+        |areas| areas.marks[5] = 128,
+    ];
+    for change in unfit {
+        let mut areas = sound.clone();
+        change(&mut areas);
+        refused(&areas, (18, 3));
+        let mut records = areas.clone();
+        set_number_at(&mut records.records, 3, 6);
+        refused(&records, (3, 2));
+        set_branch(&mut records, 1, [6, OPEN_END, 4]);
+        refused(&records, (2, 0));
+        set_number_at(&mut records.head, 4, 10);
+        refused(&records, (1, 0));
+    }
+    // Disk and marks of another volume size.
+    let mut areas = sound.clone();
+    areas.disk.truncate(256 * 5);
+    areas.marks.truncate(5);
+    refused(&areas, (18, 3));
+    set_number_at(&mut areas.head, 0, 5);
+    assert_eq!(told(&areas), (0, 3));
+}
+
+/// Where every page began stale: a live read gives the page of a read at now, and of picture now, after every request and step
+/// of any list.
+#[test]
+fn live_reads_are_reads_at_now() {
+    let draw = &mut Drawn(3);
+    for _ in 0..400 {
+        let mut store = made(5, 6, 12, 12);
+        store.marks.fill_with(|| 2 * draw.below(2) as u8);
+        let mut pile = pictures::Pile::new(5);
+        for _ in 0..60 {
+            if draw.below(4) == 0 {
+                step(&mut store, draw.below(4) as u32);
+            }
+            let request = drawn_request_of_six(draw, &store);
+            let room = draw.below(5) * 2;
+            batch_watched(&mut store, &request, &mut vec![0; room as usize], |request, answer| {
+                pile.take(request, answer.refusal != 0);
+            });
+            live_of(&mut store, true);
+            assert_eq!(pile.live_difference(&mut store), None);
+        }
+    }
+}
+
+/// A request that changes something, mostly.
+fn drawn_request_of_six(draw: &mut Drawn, store: &Areas) -> Vec<u8> {
+    let (now, floor) = (u64::from(number_at(&store.head, 3)), u64::from(number_at(&store.head, 4)));
+    let moment = floor + draw.below(now - floor + 1);
+    match draw.below(9) {
+        0..=3 => write(draw.below(6), b'a' + draw.below(26) as u8),
+        4 => mark(),
+        5 => revert(moment),
+        6 => reclaim(moment),
+        7 => name(moment, b'a' + draw.below(3) as u8),
+        _ => withdraw(b'a' + draw.below(3) as u8),
+    }
 }

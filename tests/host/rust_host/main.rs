@@ -2,7 +2,7 @@
 //! with what the reference says.
 
 use cases::{Counts, Host, NUMBERS};
-use reference::{number_at, slab_in_use, Areas, Report, ANSWER_BYTES, NAME_ROW_BYTES, PAGE_ANSWER_BYTES};
+use reference::*;
 
 extern "C" {
     fn kizmoolet_fresh(
@@ -33,6 +33,10 @@ extern "C" {
         names_len: usize,
         slab: *mut u8,
         slab_len: usize,
+        disk: *mut u8,
+        disk_len: usize,
+        marks: *mut u8,
+        marks_len: usize,
         batch: *const u8,
         batch_len: usize,
         answers: *mut u8,
@@ -41,6 +45,47 @@ extern "C" {
         request_bytes: *mut u64,
         answer_bytes: *mut u64,
         rows_read: *mut u64,
+    ) -> u32;
+    fn kizmoolet_live_read(
+        head: *const u8,
+        head_len: usize,
+        branches: *const u8,
+        branches_len: usize,
+        records: *const u8,
+        records_len: usize,
+        places: *const u8,
+        places_len: usize,
+        names: *const u8,
+        names_len: usize,
+        slab: *const u8,
+        slab_len: usize,
+        disk: *const u8,
+        disk_len: usize,
+        marks: *const u8,
+        marks_len: usize,
+        address: u32,
+        area: *mut u32,
+        offset: *mut u64,
+    ) -> u32;
+    fn kizmoolet_copy_step(
+        head: *const u8,
+        head_len: usize,
+        branches: *const u8,
+        branches_len: usize,
+        records: *const u8,
+        records_len: usize,
+        places: *const u8,
+        places_len: usize,
+        names: *const u8,
+        names_len: usize,
+        slab: *const u8,
+        slab_len: usize,
+        disk: *mut u8,
+        disk_len: usize,
+        marks: *mut u8,
+        marks_len: usize,
+        budget: u32,
+        copied: *mut u64,
     ) -> u32;
 }
 
@@ -75,6 +120,10 @@ impl Lent {
         &self.bytes[MARGIN..MARGIN + self.length]
     }
 
+    fn contents_mut(&mut self) -> &mut [u8] {
+        &mut self.bytes[MARGIN..MARGIN + self.length]
+    }
+
     fn lay(&mut self, front: &[u8]) {
         self.bytes[MARGIN..MARGIN + front.len()].copy_from_slice(front);
     }
@@ -86,15 +135,20 @@ impl Lent {
     }
 }
 
-const NAMES: [&str; 6] = ["head", "branches", "records", "places", "names", "slab"];
+const NAMES: [&str; 8] = ["head", "branches", "records", "places", "names", "slab", "disk", "marks"];
+const SLAB: usize = 5;
+const DISK: usize = 6;
+const MARKS: usize = 7;
 
 #[derive(Default)]
 struct RustHost {
-    lent: [Lent; 6],
+    lent: [Lent; 8],
     batch: Lent,
     answers: Lent,
     counts: Counts,
     seen: [u64; NUMBERS],
+    seen_live: [u64; NUMBERS],
+    seen_steps: [u64; NUMBERS],
     differ: u64,
     /// The call at work has been counted as differing.
     told: bool,
@@ -127,6 +181,16 @@ impl RustHost {
         }
     }
 
+    /// The bytes that a live read told of; none where it told of none.
+    fn live_page(&self, told: &LiveRead) -> &[u8] {
+        let from = told.offset as usize;
+        match told.area {
+            AREA_DISK => &self.lent[DISK].contents()[from..from + PAGE],
+            AREA_SLAB => &self.lent[SLAB].contents()[from..from + PAGE],
+            _ => &[],
+        }
+    }
+
     fn count_refusals(&mut self, answer_bytes: usize) {
         let mut at = 0;
         let answers = self.answers.contents();
@@ -139,8 +203,7 @@ impl RustHost {
 
 impl Host for RustHost {
     fn lend(&mut self, areas: &Areas) {
-        let list = [&areas.head, &areas.branches, &areas.records, &areas.places, &areas.names, &areas.slab];
-        for (lent, area) in self.lent.iter_mut().zip(list) {
+        for (lent, area) in self.lent.iter_mut().zip(cases::list(areas)) {
             lent.fill(area);
         }
     }
@@ -149,17 +212,23 @@ impl Host for RustHost {
         let mut kept: Vec<Vec<u8>> = self.lent.iter().map(|lent| lent.contents().to_vec()).collect();
         let (in_use, named) = (slab_in_use(&kept[3]), number_at(&kept[0], 5) as usize);
         kept[4].truncate(NAME_ROW_BYTES * named);
-        kept[5].truncate(in_use);
+        kept[SLAB].truncate(in_use);
         self.lend(onto);
-        for (lent, front) in self.lent.iter_mut().zip(&kept) {
+        for (lent, front) in self.lent.iter_mut().zip(&kept[..=SLAB]) {
             lent.lay(front);
         }
+        self.make_stale();
+    }
+
+    fn make_stale(&mut self) {
+        let marks = self.lent[MARKS].contents_mut();
+        marks.iter_mut().for_each(|mark| *mark &= BLANK);
     }
 
     fn fresh(&mut self, size: u32, result: u32) {
         self.counts.calls += 1;
         self.told = false;
-        let [head, branches, records, places, names, slab] = &mut self.lent;
+        let [head, branches, records, places, names, slab, ..] = &mut self.lent;
         // Every area is a part of its own, as long as is said.
         let got = unsafe {
             kizmoolet_fresh(
@@ -190,7 +259,7 @@ impl Host for RustHost {
         self.told = false;
         self.batch.fill(batch);
         self.answers.fill(before);
-        let [head, branches, records, places, names, slab] = &mut self.lent;
+        let [head, branches, records, places, names, slab, disk, marks] = &mut self.lent;
         // Other numbers than are due: each count must be written.
         let mut got = Report {
             stop: 0,
@@ -213,6 +282,10 @@ impl Host for RustHost {
                 names.length,
                 slab.address(),
                 slab.length,
+                disk.address(),
+                disk.length,
+                marks.address(),
+                marks.length,
                 self.batch.address(),
                 self.batch.length,
                 self.answers.address(),
@@ -242,9 +315,84 @@ impl Host for RustHost {
         self.check_margins();
     }
 
+    fn live_read(&mut self, address: u32, told: &LiveRead, page: &[u8]) {
+        self.counts.calls += 1;
+        self.told = false;
+        let [head, branches, records, places, names, slab, disk, marks] = &mut self.lent;
+        let mut got = LiveRead { refusal: 0, area: !told.area, offset: !told.offset };
+        got.refusal = unsafe {
+            kizmoolet_live_read(
+                head.address(),
+                head.length,
+                branches.address(),
+                branches.length,
+                records.address(),
+                records.length,
+                places.address(),
+                places.length,
+                names.address(),
+                names.length,
+                slab.address(),
+                slab.length,
+                disk.address(),
+                disk.length,
+                marks.address(),
+                marks.length,
+                address,
+                &mut got.area,
+                &mut got.offset,
+            )
+        };
+        self.counts.live_reads[got.refusal as usize % NUMBERS] += 1;
+        if got != *told {
+            self.differs(&format!("the live read tells {got:?}, should {told:?}"));
+        } else if self.live_page(&got) != page {
+            self.differs("the page of the live read");
+        } else if got.refusal == 0 {
+            self.counts.pages[got.area as usize] += 1;
+        }
+        self.check_margins();
+    }
+
+    fn copy_step(&mut self, budget: u32, told: &Step) {
+        self.counts.calls += 1;
+        self.told = false;
+        let [head, branches, records, places, names, slab, disk, marks] = &mut self.lent;
+        let mut got = Step { refusal: 0, copied: !told.copied };
+        got.refusal = unsafe {
+            kizmoolet_copy_step(
+                head.address(),
+                head.length,
+                branches.address(),
+                branches.length,
+                records.address(),
+                records.length,
+                places.address(),
+                places.length,
+                names.address(),
+                names.length,
+                slab.address(),
+                slab.length,
+                disk.address(),
+                disk.length,
+                marks.address(),
+                marks.length,
+                budget,
+                &mut got.copied,
+            )
+        };
+        self.counts.steps[got.refusal as usize % NUMBERS] += 1;
+        if got != *told {
+            self.differs(&format!("the step tells {got:?}, should {told:?}"));
+        } else {
+            self.counts.copied += got.copied;
+        }
+        self.check_margins();
+    }
+
     fn compare(&mut self, areas: &Areas) {
         self.counts.compared += 1;
-        let list = [&areas.head, &areas.branches, &areas.records, &areas.places, &areas.names, &areas.slab];
+        let list = cases::list(areas);
         let mut same = true;
         for index in 0..NAMES.len() {
             if self.lent[index].contents() != list[index].as_slice() {
@@ -277,8 +425,21 @@ impl Host for RustHost {
             list(&counts.stops, 0..NUMBERS),
             list(&counts.refusals, 1..NUMBERS)
         );
+        if counts.live_reads != [0; NUMBERS] || counts.steps != [0; NUMBERS] {
+            println!(
+                "    live reads {}; pages on the disk {}, in the slab {}, none {}; steps {}, {} pages",
+                list(&counts.live_reads, 0..NUMBERS),
+                counts.pages[AREA_DISK as usize],
+                counts.pages[AREA_SLAB as usize],
+                counts.pages[AREA_NONE as usize],
+                list(&counts.steps, 0..NUMBERS),
+                counts.copied
+            );
+        }
         for number in 0..NUMBERS {
             self.seen[number] += counts.stops[number] + counts.refusals[number];
+            self.seen_live[number] += counts.live_reads[number];
+            self.seen_steps[number] += counts.steps[number];
         }
     }
 
@@ -299,8 +460,14 @@ fn work() -> bool {
     let only_first = arguments.get(4).is_some_and(|word| word == "first");
     let mut host = RustHost { only_first, ..RustHost::default() };
     cases::all(&mut host, seed, scale, &arguments[3]);
-    let missing: Vec<String> =
-        (1..18).filter(|number| host.seen[*number] == 0).map(|number| number.to_string()).collect();
+    let mut missing: Vec<String> = Vec::new();
+    let mut want = |what: &str, seen: &[u64; NUMBERS], numbers: &[usize]| {
+        let never = numbers.iter().filter(|number| seen[**number] == 0);
+        missing.extend(never.map(|number| format!("{what} {number}")));
+    };
+    want("batch", &host.seen, &(1..=18).collect::<Vec<_>>());
+    want("live read", &host.seen_live, &[0, 1, 2, 3, 4, 18]);
+    want("step", &host.seen_steps, &[0, 1, 2, 3, 18]);
     if arguments[3] == "all" && !missing.is_empty() {
         println!("  never seen: {}", missing.join(", "));
         return false;

@@ -7,7 +7,8 @@ use Rattle.rows.specs.Rows.{NamesIn}
 use Rattle.rows.specs.View.{Tables, tables}
 use Rattle.store.proofs.Laws.{sound-revertible, sound-readable}
 use Rattle.writing.proofs.Sound.{sound-writable}
-use Rattle.batch.proofs.Laws.{page-room, whole-page}
+use Rattle.following.proofs.Laws.{page-room}
+use Rattle.batch.proofs.Laws.{whole-page}
 use Rattle.batch.proofs.Lent.{sound-nameable}
 use borrow.Author.Needs.{needs}
 use Rattle.batch.proofs.serve.Statement.{statement}

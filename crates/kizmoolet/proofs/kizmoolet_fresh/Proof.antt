@@ -1,6 +1,6 @@
 use mathlib.Core.Path.{sym, _∙_}
 use borrow.Author.Tests.{not-true, not-false}
-use Rattle.kizmoolet.proofs.Fresh.{fresh-unfit}
+use Rattle.fresh_areas.proofs.Fresh.{fresh-unfit}
 use Rattle.kizmoolet.proofs.kizmoolet_fresh.Statement.{statement}
 use Rattle.kizmoolet.proofs.kizmoolet_fresh.Tie as tie
 

@@ -53,12 +53,13 @@ use denote.Exit.{yes}
 use Rattle.model.specs.declared.Branch.{Branch}
 use Rattle.model.specs.declared.Head.{Head}
 use Rattle.rows.specs.Rows.{branchWidth, branchRowsOf}
+use Rattle.live.specs.Live.{diskOf}
 use Rattle.lent.specs.declared.Report.{Report}
 use Rattle.lent.specs.declared.Ended.{Ended}
 use Rattle.lent.specs.Lent.{lent, lentBatch, lentRead, BatchLeaves}
-use Rattle.lent.proofs.Lending.{many-batch-leaves, many-read}
+use Rattle.lent.proofs.Lending.{many-batch-leaves, many-disk, many-read}
 use Rattle.lent.proofs.Again.{LentShared, lends-shared, shared-back}
-use Rattle.lent.proofs.Ifs.{falls, enters, gives-slice, says-both}
+use Rattle.lent.proofs.Ifs.{falls, enters, gives-slice, says-three}
 use Rattle.lent.proofs.Local.{repeat-val, repeat-typed, repeat-own, here, at-list, array-in, array-out, lends-local, lends-local-shr, local-back, big-lit}
 use Rattle.lent.proofs.Table.{Ld, St, N, n-room, zeros, zero-is, full, full-fit, full-rows, to-load, goes-load, to-store, goes-store}
 use Rattle.model.proofs.Branch as B
@@ -87,14 +88,14 @@ use Rattle.lent.proofs.run_batch.Code as code
 
 -- the head is still owned at exit; the rows and the other `&mut` slices were passed on for good
 abbrev stayed : Stays (f.ended .signature .params) (f.ended .kept)
-stayed = (stay-ref (0 ∷ []) tt (plain (λ _. T.the-row)), (gave-slice (1 ∷ []) tt (plain (λ _. B.the-row)), (gave-slice (2 ∷ []) tt (plain (λ _. u32)), (gave-slice (3 ∷ []) tt (plain (λ _. u32)), (gave-slice (4 ∷ []) tt (plain (λ _. u32)), (gave-slice (5 ∷ []) tt (plain (λ _. u8)), (stay-none-slice (6 ∷ []) tt (plain (λ _. u8)) yes, (gave-slice (7 ∷ []) tt (plain (λ _. u8)), tt))))))))
+stayed = (stay-ref (0 ∷ []) tt (plain (λ _. T.the-row)), (gave-slice (1 ∷ []) tt (plain (λ _. B.the-row)), (gave-slice (2 ∷ []) tt (plain (λ _. u32)), (gave-slice (3 ∷ []) tt (plain (λ _. u32)), (gave-slice (4 ∷ []) tt (plain (λ _. u32)), (gave-slice (5 ∷ []) tt (plain (λ _. u8)), (gave-slice (6 ∷ []) tt (plain (λ _. u8)), (gave-slice (7 ∷ []) tt (plain (λ _. u8)), (stay-none-slice (8 ∷ []) tt (plain (λ _. u8)) yes, (gave-slice (9 ∷ []) tt (plain (λ _. u8)), tt))))))))))
 
 -- the contract of the core that the proof cites
 abbrev Co : {M : Type 1} (𝓤 : URA M) (H : Heap 𝓤) (A : Atoms 𝓤) (at-mem : Memory → SProp 𝓤) (run : Routine → Fun 𝓤) → Contract 𝓤
 Co 𝓤 H A at-mem run = tripleOf 𝓤 H A co.signature (co.spec 𝓤 H A at-mem run)
 
-module _ {M : Type 1} (𝓤 : URA M) (H : Heap 𝓤) (A : Atoms 𝓤) (W : Given 𝓤 H A) (at-mem : Memory → SProp 𝓤) (run : Routine → Fun 𝓤) (κ₀ κ₁ κ₂ κ₃ κ₄ κ₅ κ₆ κ₇ : Lft) (q₀ q₁ q₂ q₃ q₄ q₅ q₆ q₇ : Share) (b₀ o₀ : ℕ) (γ₀ : GName) (h : Head) (b₁ o₁ : ℕ) (γ₁ : GName) (ys : List Branch) (b₂ o₂ : ℕ) (γ₂ : GName) (rt : List ℕ) (b₃ o₃ : ℕ) (γ₃ : GName) (pt : List ℕ) (b₄ o₄ : ℕ) (γ₄ : GName) (nt : List ℕ) (b₅ o₅ : ℕ) (γ₅ : GName) (slab : List ℕ) (b₆ o₆ : ℕ) (γ₆ : GName) (input : List ℕ) (b₇ o₇ : ℕ) (γ₇ : GName) (answers : List ℕ)
-    (room₁ : Room B.the-row (length ys)) (room₂ : Room u32 (length rt)) (room₃ : Room u32 (length pt)) (room₄ : Room u32 (length nt)) (room₅ : Room u8 (length slab)) (room₆ : Room u8 (length input)) (room₇ : Room u8 (length answers)) where
+module _ {M : Type 1} (𝓤 : URA M) (H : Heap 𝓤) (A : Atoms 𝓤) (W : Given 𝓤 H A) (at-mem : Memory → SProp 𝓤) (run : Routine → Fun 𝓤) (κ₀ κ₁ κ₂ κ₃ κ₄ κ₅ κ₆ κ₇ κ₈ κ₉ : Lft) (q₀ q₁ q₂ q₃ q₄ q₅ q₆ q₇ q₈ q₉ : Share) (b₀ o₀ : ℕ) (γ₀ : GName) (h : Head) (b₁ o₁ : ℕ) (γ₁ : GName) (ys : List Branch) (b₂ o₂ : ℕ) (γ₂ : GName) (rt : List ℕ) (b₃ o₃ : ℕ) (γ₃ : GName) (pt : List ℕ) (b₄ o₄ : ℕ) (γ₄ : GName) (nt : List ℕ) (b₅ o₅ : ℕ) (γ₅ : GName) (slab : List ℕ) (b₆ o₆ : ℕ) (γ₆ : GName) (disk : List ℕ) (b₇ o₇ : ℕ) (γ₇ : GName) (marks : List ℕ) (b₈ o₈ : ℕ) (γ₈ : GName) (input : List ℕ) (b₉ o₉ : ℕ) (γ₉ : GName) (answers : List ℕ)
+    (room₁ : Room B.the-row (length ys)) (room₂ : Room u32 (length rt)) (room₃ : Room u32 (length pt)) (room₄ : Room u32 (length nt)) (room₅ : Room u8 (length slab)) (room₆ : Room u8 (length disk)) (room₇ : Room u8 (length marks)) (room₈ : Room u8 (length input)) (room₉ : Room u8 (length answers)) where
   abbrev R : RattleType
   R = T.the-row
 
@@ -136,42 +137,57 @@ module _ {M : Type 1} (𝓤 : URA M) (H : Heap 𝓤) (A : Atoms 𝓤) (W : Given
   s₅ = sliceVal (b₅, o₅) (length slab)
 
   abbrev x₆ : RefT (List ℕ)
-  x₆ = record { ptr = (b₆, o₆); name = γ₆; now = input }
+  x₆ = record { ptr = (b₆, o₆); name = γ₆; now = disk }
 
   abbrev s₆ : Val
-  s₆ = sliceVal (b₆, o₆) (length input)
+  s₆ = sliceVal (b₆, o₆) (length disk)
 
   abbrev x₇ : RefT (List ℕ)
-  x₇ = record { ptr = (b₇, o₇); name = γ₇; now = answers }
+  x₇ = record { ptr = (b₇, o₇); name = γ₇; now = marks }
 
   abbrev s₇ : Val
-  s₇ = sliceVal (b₇, o₇) (length answers)
+  s₇ = sliceVal (b₇, o₇) (length marks)
+
+  abbrev x₈ : RefT (List ℕ)
+  x₈ = record { ptr = (b₈, o₈); name = γ₈; now = input }
+
+  abbrev s₈ : Val
+  s₈ = sliceVal (b₈, o₈) (length input)
+
+  abbrev x₉ : RefT (List ℕ)
+  x₉ = record { ptr = (b₉, o₉); name = γ₉; now = answers }
+
+  abbrev s₉ : Val
+  s₉ = sliceVal (b₉, o₉) (length answers)
 
   abbrev Arg : Type 0
-  Arg = RefT Head × (RefT (List Branch) × (RefT (List ℕ) × (RefT (List ℕ) × (RefT (List ℕ) × (RefT (List ℕ) × (RefT (List ℕ) × (RefT (List ℕ) × Unit {0})))))))
+  Arg = RefT Head × (RefT (List Branch) × (RefT (List ℕ) × (RefT (List ℕ) × (RefT (List ℕ) × (RefT (List ℕ) × (RefT (List ℕ) × (RefT (List ℕ) × (RefT (List ℕ) × (RefT (List ℕ) × Unit {0})))))))))
 
   abbrev a : Arg
-  a = (x₀, (x₁, (x₂, (x₃, (x₄, (x₅, (x₆, (x₇, tt))))))))
+  a = (x₀, (x₁, (x₂, (x₃, (x₄, (x₅, (x₆, (x₇, (x₈, (x₉, tt))))))))))
 
-  abbrev at : Vals f.signature (κ₀, (κ₁, (κ₂, (κ₃, (κ₄, (κ₅, (κ₆, (κ₇, tt))))))))
-  at = (vptr b₀ o₀ ∷ [], (s₁ ∷ [], (s₂ ∷ [], (s₃ ∷ [], (s₄ ∷ [], (s₅ ∷ [], (s₆ ∷ [], (s₇ ∷ [], tt))))))))
+  abbrev at : Vals f.signature (κ₀, (κ₁, (κ₂, (κ₃, (κ₄, (κ₅, (κ₆, (κ₇, (κ₈, (κ₉, tt))))))))))
+  at = (vptr b₀ o₀ ∷ [], (s₁ ∷ [], (s₂ ∷ [], (s₃ ∷ [], (s₄ ∷ [], (s₅ ∷ [], (s₆ ∷ [], (s₇ ∷ [], (s₈ ∷ [], (s₉ ∷ [], tt))))))))))
 
   abbrev Post : Val → SProp 𝓤
-  Post = walkOf 𝓤 H A f.ended stayed (f.clauses 𝓤 H A at-mem run) .post (((κ₀, (κ₁, (κ₂, (κ₃, (κ₄, (κ₅, (κ₆, (κ₇, tt)))))))), (q₀, (q₁, (q₂, (q₃, (q₄, (q₅, (q₆, (q₇, tt)))))))), tt, a, at), tt)
+  Post = walkOf 𝓤 H A f.ended stayed (f.clauses 𝓤 H A at-mem run) .post (((κ₀, (κ₁, (κ₂, (κ₃, (κ₄, (κ₅, (κ₆, (κ₇, (κ₈, (κ₉, tt)))))))))), (q₀, (q₁, (q₂, (q₃, (q₄, (q₅, (q₆, (q₇, (q₈, (q₉, tt)))))))))), tt, a, at), tt)
 
   -- what the contract says of the result and of the last values
-  abbrev Said : Report → Head → List Branch → List ℕ → List ℕ → List ℕ → List ℕ → List ℕ → Type 0
-  Said r h′ zr z-rt z-pt z-nt z-slab z-answers = BatchLeaves (lentBatch h (lent ys rt pt nt slab) input (length answers)) (lent ys rt pt nt slab) answers r h′ (lent zr z-rt z-pt z-nt z-slab) z-answers
+  abbrev Said : Report → Head → List Branch → List ℕ → List ℕ → List ℕ → List ℕ → List ℕ → List ℕ → List ℕ → Type 0
+  Said r h′ zr z-rt z-pt z-nt z-slab z-disk z-marks z-answers = BatchLeaves (lentBatch h (lent ys rt pt nt slab) (diskOf disk marks) input (length answers) .run) (lent ys rt pt nt slab) answers r h′ (lent zr z-rt z-pt z-nt z-slab) z-answers
 
-  -- and of the rows read
+  -- of the live disk, and of the rows read
+  abbrev Follows : List Branch → List ℕ → List ℕ → Type 0
+  Follows rows z-disk z-marks = diskOf z-disk z-marks ≡ lentBatch h (lent rows rt pt nt slab) (diskOf disk marks) input (length answers) .disk
+
   abbrev Read : List Branch → Report → Type 0
   Read rows r = r .rows ≡ lentRead h (lent rows rt pt nt slab)
 
-  exits : (r : Report) (h′ : Head) (zr : List Branch) (z-rt : List ℕ) (z-pt : List ℕ) (z-nt : List ℕ) (z-slab : List ℕ) (z-answers : List ℕ) → Said r h′ zr z-rt z-pt z-nt z-slab z-answers → Read ys r → length zr ≡ length ys → length z-rt ≡ length rt → length z-pt ≡ length pt → length z-nt ≡ length nt → length z-slab ≡ length slab → length z-answers ≡ length answers → Is Q.the-row r (Q′.lowered r ∷ [])
-      → ent 𝓤 (⋆ 𝓤 H A (‵ (fobs γ₀ (R .coded .code h′)) ∷ ‵ (fbor κ₀ (Body (mem R) b₀ o₀ γ₀)) ∷ ‵ (flft κ₀ q₀) ∷ ‵ (flft κ₁ q₁) ∷ (‵ (flft κ₂ q₂) ⊛ ‵ (flft κ₃ q₃) ⊛ ‵ (flft κ₄ q₄) ⊛ ‵ (flft κ₅ q₅) ⊛ ‵ (flft κ₆ q₆) ⊛ ‵ (flft κ₇ q₇) ⊛ ‵ ftrue) ∷ ‵ (finally S γ₁ zr) ∷ ‵ (finally u32 γ₂ z-rt) ∷ ‵ (finally u32 γ₃ z-pt) ∷ ‵ (finally u32 γ₄ z-nt) ∷ ‵ (finally u8 γ₅ z-slab) ∷ ‵ (finally u8 γ₇ z-answers) ∷ ‵ (ShrSlice (named 6) κ₆ u8 .own x₆ (s₆ ∷ [])) ∷ [])) (Post (Q′.lowered r))
-  exits r h′ zr z-rt z-pt z-nt z-slab z-answers said read same-rows same-rt same-pt same-nt same-slab same-answers is =
-      qed W (‵ (fobs γ₀ (R .coded .code h′)) ∷ ‵ (fbor κ₀ (Body (mem R) b₀ o₀ γ₀)) ∷ ‵ (flft κ₀ q₀) ∷ ‵ (flft κ₁ q₁) ∷ (‵ (flft κ₂ q₂) ⊛ ‵ (flft κ₃ q₃) ⊛ ‵ (flft κ₄ q₄) ⊛ ‵ (flft κ₅ q₅) ⊛ ‵ (flft κ₆ q₆) ⊛ ‵ (flft κ₇ q₇) ⊛ ‵ ftrue) ∷ ‵ (finally S γ₁ zr) ∷ ‵ (finally u32 γ₂ z-rt) ∷ ‵ (finally u32 γ₃ z-pt) ∷ ‵ (finally u32 γ₄ z-nt) ∷ ‵ (finally u8 γ₅ z-slab) ∷ ‵ (finally u8 γ₇ z-answers) ∷ ‵ (ShrSlice (named 6) κ₆ u8 .own x₆ (s₆ ∷ [])) ∷ []) ∵
-      suffices ! _ (ends-at 𝓤 H A f.ended stayed (f.clauses 𝓤 H A at-mem run) W (((κ₀, (κ₁, (κ₂, (κ₃, (κ₄, (κ₅, (κ₆, (κ₇, tt)))))))), (q₀, (q₁, (q₂, (q₃, (q₄, (q₅, (q₆, (q₇, tt)))))))), tt, a, at), tt) (Q′.lowered r) r (h′, (zr, (z-rt, (z-pt, (z-nt, (z-slab, (tt, (z-answers, tt)))))))) (tt, (same-rows, (same-rt, (same-pt, (same-nt, (same-slab, (tt, (same-answers, tt))))))))) $ says-both ! said read $
+  exits : (r : Report) (h′ : Head) (zr : List Branch) (z-rt : List ℕ) (z-pt : List ℕ) (z-nt : List ℕ) (z-slab : List ℕ) (z-disk : List ℕ) (z-marks : List ℕ) (z-answers : List ℕ) → Said r h′ zr z-rt z-pt z-nt z-slab z-disk z-marks z-answers → Follows ys z-disk z-marks → Read ys r → length zr ≡ length ys → length z-rt ≡ length rt → length z-pt ≡ length pt → length z-nt ≡ length nt → length z-slab ≡ length slab → length z-disk ≡ length disk → length z-marks ≡ length marks → length z-answers ≡ length answers → Is Q.the-row r (Q′.lowered r ∷ [])
+      → ent 𝓤 (⋆ 𝓤 H A (‵ (fobs γ₀ (R .coded .code h′)) ∷ ‵ (fbor κ₀ (Body (mem R) b₀ o₀ γ₀)) ∷ ‵ (flft κ₀ q₀) ∷ ‵ (flft κ₁ q₁) ∷ (‵ (flft κ₂ q₂) ⊛ ‵ (flft κ₃ q₃) ⊛ ‵ (flft κ₄ q₄) ⊛ ‵ (flft κ₅ q₅) ⊛ ‵ (flft κ₆ q₆) ⊛ ‵ (flft κ₇ q₇) ⊛ ‵ (flft κ₈ q₈) ⊛ ‵ (flft κ₉ q₉) ⊛ ‵ ftrue) ∷ ‵ (finally S γ₁ zr) ∷ ‵ (finally u32 γ₂ z-rt) ∷ ‵ (finally u32 γ₃ z-pt) ∷ ‵ (finally u32 γ₄ z-nt) ∷ ‵ (finally u8 γ₅ z-slab) ∷ ‵ (finally u8 γ₆ z-disk) ∷ ‵ (finally u8 γ₇ z-marks) ∷ ‵ (finally u8 γ₉ z-answers) ∷ ‵ (ShrSlice (named 8) κ₈ u8 .own x₈ (s₈ ∷ [])) ∷ [])) (Post (Q′.lowered r))
+  exits r h′ zr z-rt z-pt z-nt z-slab z-disk z-marks z-answers said follows read same-rows same-rt same-pt same-nt same-slab same-disk same-marks same-answers is =
+      qed W (‵ (fobs γ₀ (R .coded .code h′)) ∷ ‵ (fbor κ₀ (Body (mem R) b₀ o₀ γ₀)) ∷ ‵ (flft κ₀ q₀) ∷ ‵ (flft κ₁ q₁) ∷ (‵ (flft κ₂ q₂) ⊛ ‵ (flft κ₃ q₃) ⊛ ‵ (flft κ₄ q₄) ⊛ ‵ (flft κ₅ q₅) ⊛ ‵ (flft κ₆ q₆) ⊛ ‵ (flft κ₇ q₇) ⊛ ‵ (flft κ₈ q₈) ⊛ ‵ (flft κ₉ q₉) ⊛ ‵ ftrue) ∷ ‵ (finally S γ₁ zr) ∷ ‵ (finally u32 γ₂ z-rt) ∷ ‵ (finally u32 γ₃ z-pt) ∷ ‵ (finally u32 γ₄ z-nt) ∷ ‵ (finally u8 γ₅ z-slab) ∷ ‵ (finally u8 γ₆ z-disk) ∷ ‵ (finally u8 γ₇ z-marks) ∷ ‵ (finally u8 γ₉ z-answers) ∷ ‵ (ShrSlice (named 8) κ₈ u8 .own x₈ (s₈ ∷ [])) ∷ []) ∵
+      suffices ! _ (ends-at 𝓤 H A f.ended stayed (f.clauses 𝓤 H A at-mem run) W (((κ₀, (κ₁, (κ₂, (κ₃, (κ₄, (κ₅, (κ₆, (κ₇, (κ₈, (κ₉, tt)))))))))), (q₀, (q₁, (q₂, (q₃, (q₄, (q₅, (q₆, (q₇, (q₈, (q₉, tt)))))))))), tt, a, at), tt) (Q′.lowered r) r (h′, (zr, (z-rt, (z-pt, (z-nt, (z-slab, (z-disk, (z-marks, (tt, (z-answers, tt)))))))))) (tt, (same-rows, (same-rt, (same-pt, (same-nt, (same-slab, (same-disk, (same-marks, (tt, (same-answers, tt))))))))))) $ says-three ! said follows read $
       move ! (3 ∷ 4 ∷ []) $
       join ! $
       move ! (3 ∷ 0 ∷ []) $
@@ -180,7 +196,11 @@ module _ {M : Type 1} (𝓤 : URA M) (H : Heap 𝓤) (A : Atoms 𝓤) (W : Given
       feqI ! (List Val) (vptr b₀ o₀ ∷ []) (vptr b₀ o₀ ∷ []) refl $
       fjoin3 ! $
       nothing ! $
-      move ! (7 ∷ 0 ∷ []) $
+      move ! (9 ∷ 0 ∷ []) $
+      fjoin ! $
+      move ! (9 ∷ 0 ∷ []) $
+      fjoin ! $
+      move ! (8 ∷ 0 ∷ []) $
       fjoin ! $
       move ! (7 ∷ 0 ∷ []) $
       fjoin ! $
@@ -208,19 +228,19 @@ module _ {M : Type 1} (𝓤 : URA M) (H : Heap 𝓤) (A : Atoms 𝓤) (W : Given
   refused-is = LL.owes Q.the-type Q′.the-laws refused ((refl, lit< tt), ((refl, lit< tt), ((refl, lit< tt), ((refl, lit< tt), ((refl, lit< tt), tt)))))
 
   -- what the core ensures, of its result and the last lists; zt is the table's
-  abbrev Did : Ended → List ℕ → List ℕ → List ℕ → List ℕ → List ℕ → List ℕ → Type 0
-  Did r zt z-rt z-pt z-nt z-slab z-answers = (dropL (length ys * branchWidth) zt ≡ dropL (length ys * branchWidth) (full ys)) × BatchLeaves (lentBatch h (lent (take (length ys) (branchRowsOf (full ys))) rt pt nt slab) input (length answers)) (lent (take (length ys) (branchRowsOf (full ys))) rt pt nt slab) answers (r .report) (r .head) (lent (take (length ys) (branchRowsOf zt)) z-rt z-pt z-nt z-slab) z-answers
+  abbrev Did : Ended → List ℕ → List ℕ → List ℕ → List ℕ → List ℕ → List ℕ → List ℕ → List ℕ → Type 0
+  Did r zt z-rt z-pt z-nt z-slab z-disk z-marks z-answers = (dropL (length ys * branchWidth) zt ≡ dropL (length ys * branchWidth) (full ys)) × BatchLeaves (lentBatch h (lent (take (length ys) (branchRowsOf (full ys))) rt pt nt slab) (diskOf disk marks) input (length answers) .run) (lent (take (length ys) (branchRowsOf (full ys))) rt pt nt slab) answers (r .report) (r .head) (lent (take (length ys) (branchRowsOf zt)) z-rt z-pt z-nt z-slab) z-answers
 
-  stored-said : length ys ≤ 4096 → (r : Ended) (zt : List ℕ) (zr : List Branch) (z-rt : List ℕ) (z-pt : List ℕ) (z-nt : List ℕ) (z-slab : List ℕ) (z-answers : List ℕ) → Did r zt z-rt z-pt z-nt z-slab z-answers → zr ≡ take (length ys) (branchRowsOf zt) → Said (r .report) (r .head) zr z-rt z-pt z-nt z-slab z-answers
-  stored-said small r zt zr z-rt z-pt z-nt z-slab z-answers did e =
+  stored-said : length ys ≤ 4096 → (r : Ended) (zt : List ℕ) (zr : List Branch) (z-rt : List ℕ) (z-pt : List ℕ) (z-nt : List ℕ) (z-slab : List ℕ) (z-disk : List ℕ) (z-marks : List ℕ) (z-answers : List ℕ) → Did r zt z-rt z-pt z-nt z-slab z-disk z-marks z-answers → zr ≡ take (length ys) (branchRowsOf zt) → Said (r .report) (r .head) zr z-rt z-pt z-nt z-slab z-disk z-marks z-answers
+  stored-said small r zt zr z-rt z-pt z-nt z-slab z-disk z-marks z-answers did e =
       let said = did .1 in rw e (rw (full-rows ys small) at said)
 
   -- what the core is handed; l is the table's block
   abbrev to-core : ℕ → ℕ → GName → Co 𝓤 H A at-mem run .Ghost
-  to-core l ν ε = (((ν ∷ [], (κ₂, (κ₃, (κ₄, (κ₅, (κ₆, (κ₇, tt))))))), (fullShare, (q₂, (q₃, (q₄, (q₅, (q₆, (q₇, tt))))))), tt, (h, (length ys, (at-list l ε (full ys), (x₂, (x₃, (x₄, (x₅, (x₆, (x₇, tt))))))))), (T′.lowered h ∷ [], (vint w64 (length ys) ∷ [], (sliceVal (l, 0) N ∷ [], (s₂ ∷ [], (s₃ ∷ [], (s₄ ∷ [], (s₅ ∷ [], (s₆ ∷ [], (s₇ ∷ [], tt)))))))))), tt)
+  to-core l ν ε = (((ν ∷ [], (κ₂, (κ₃, (κ₄, (κ₅, (κ₆, (κ₇, (κ₈, (κ₉, tt))))))))), (fullShare, (q₂, (q₃, (q₄, (q₅, (q₆, (q₇, (q₈, (q₉, tt))))))))), tt, (h, (length ys, (at-list l ε (full ys), (x₂, (x₃, (x₄, (x₅, (x₆, (x₇, (x₈, (x₉, tt))))))))))), (T′.lowered h ∷ [], (vint w64 (length ys) ∷ [], (sliceVal (l, 0) N ∷ [], (s₂ ∷ [], (s₃ ∷ [], (s₄ ∷ [], (s₅ ∷ [], (s₆ ∷ [], (s₇ ∷ [], (s₈ ∷ [], (s₉ ∷ [], tt)))))))))))), tt)
 
-  goes-core : length ys ≤ 4096 → (l ν : ℕ) (ε : GName) → ent 𝓤 (⋆ 𝓤 H A ((‵ (flft (ν ∷ []) fullShare) ⊛ ‵ (flft κ₂ q₂) ⊛ ‵ (flft κ₃ q₃) ⊛ ‵ (flft κ₄ q₄) ⊛ ‵ (flft κ₅ q₅) ⊛ ‵ (flft κ₆ q₆) ⊛ ‵ (flft κ₇ q₇) ⊛ ‵ ftrue) ∷ ‵ (owns (R ∷ usize ∷ MutSlice (named 0) (ν ∷ []) u32 ∷ MutSlice (named 2) κ₂ u32 ∷ MutSlice (named 3) κ₃ u32 ∷ MutSlice (named 4) κ₄ u32 ∷ MutSlice (named 5) κ₅ u8 ∷ ShrSlice (named 6) κ₆ u8 ∷ MutSlice (named 7) κ₇ u8 ∷ []) (h, (length ys, (at-list l ε (full ys), (x₂, (x₃, (x₄, (x₅, (x₆, (x₇, tt))))))))) (T′.lowered h ∷ [], (vint w64 (length ys) ∷ [], (sliceVal (l, 0) N ∷ [], (s₂ ∷ [], (s₃ ∷ [], (s₄ ∷ [], (s₅ ∷ [], (s₆ ∷ [], (s₇ ∷ [], tt)))))))))) ∷ [])) (Co 𝓤 H A at-mem run .pre (to-core l ν ε))
-  goes-core small l ν ε = qed W ((‵ (flft (ν ∷ []) fullShare) ⊛ ‵ (flft κ₂ q₂) ⊛ ‵ (flft κ₃ q₃) ⊛ ‵ (flft κ₄ q₄) ⊛ ‵ (flft κ₅ q₅) ⊛ ‵ (flft κ₆ q₆) ⊛ ‵ (flft κ₇ q₇) ⊛ ‵ ftrue) ∷ ‵ (owns (R ∷ usize ∷ MutSlice (named 0) (ν ∷ []) u32 ∷ MutSlice (named 2) κ₂ u32 ∷ MutSlice (named 3) κ₃ u32 ∷ MutSlice (named 4) κ₄ u32 ∷ MutSlice (named 5) κ₅ u8 ∷ ShrSlice (named 6) κ₆ u8 ∷ MutSlice (named 7) κ₇ u8 ∷ []) (h, (length ys, (at-list l ε (full ys), (x₂, (x₃, (x₄, (x₅, (x₆, (x₇, tt))))))))) (T′.lowered h ∷ [], (vint w64 (length ys) ∷ [], (sliceVal (l, 0) N ∷ [], (s₂ ∷ [], (s₃ ∷ [], (s₄ ∷ [], (s₅ ∷ [], (s₆ ∷ [], (s₇ ∷ [], tt)))))))))) ∷ []) ∵ says ! (full-fit ys small) $ done !
+  goes-core : length ys ≤ 4096 → (l ν : ℕ) (ε : GName) → ent 𝓤 (⋆ 𝓤 H A ((‵ (flft (ν ∷ []) fullShare) ⊛ ‵ (flft κ₂ q₂) ⊛ ‵ (flft κ₃ q₃) ⊛ ‵ (flft κ₄ q₄) ⊛ ‵ (flft κ₅ q₅) ⊛ ‵ (flft κ₆ q₆) ⊛ ‵ (flft κ₇ q₇) ⊛ ‵ (flft κ₈ q₈) ⊛ ‵ (flft κ₉ q₉) ⊛ ‵ ftrue) ∷ ‵ (owns (R ∷ usize ∷ MutSlice (named 0) (ν ∷ []) u32 ∷ MutSlice (named 2) κ₂ u32 ∷ MutSlice (named 3) κ₃ u32 ∷ MutSlice (named 4) κ₄ u32 ∷ MutSlice (named 5) κ₅ u8 ∷ MutSlice (named 6) κ₆ u8 ∷ MutSlice (named 7) κ₇ u8 ∷ ShrSlice (named 8) κ₈ u8 ∷ MutSlice (named 9) κ₉ u8 ∷ []) (h, (length ys, (at-list l ε (full ys), (x₂, (x₃, (x₄, (x₅, (x₆, (x₇, (x₈, (x₉, tt))))))))))) (T′.lowered h ∷ [], (vint w64 (length ys) ∷ [], (sliceVal (l, 0) N ∷ [], (s₂ ∷ [], (s₃ ∷ [], (s₄ ∷ [], (s₅ ∷ [], (s₆ ∷ [], (s₇ ∷ [], (s₈ ∷ [], (s₉ ∷ [], tt)))))))))))) ∷ [])) (Co 𝓤 H A at-mem run .pre (to-core l ν ε))
+  goes-core small l ν ε = qed W ((‵ (flft (ν ∷ []) fullShare) ⊛ ‵ (flft κ₂ q₂) ⊛ ‵ (flft κ₃ q₃) ⊛ ‵ (flft κ₄ q₄) ⊛ ‵ (flft κ₅ q₅) ⊛ ‵ (flft κ₆ q₆) ⊛ ‵ (flft κ₇ q₇) ⊛ ‵ (flft κ₈ q₈) ⊛ ‵ (flft κ₉ q₉) ⊛ ‵ ftrue) ∷ ‵ (owns (R ∷ usize ∷ MutSlice (named 0) (ν ∷ []) u32 ∷ MutSlice (named 2) κ₂ u32 ∷ MutSlice (named 3) κ₃ u32 ∷ MutSlice (named 4) κ₄ u32 ∷ MutSlice (named 5) κ₅ u8 ∷ MutSlice (named 6) κ₆ u8 ∷ MutSlice (named 7) κ₇ u8 ∷ ShrSlice (named 8) κ₈ u8 ∷ MutSlice (named 9) κ₉ u8 ∷ []) (h, (length ys, (at-list l ε (full ys), (x₂, (x₃, (x₄, (x₅, (x₆, (x₇, (x₈, (x₉, tt))))))))))) (T′.lowered h ∷ [], (vint w64 (length ys) ∷ [], (sliceVal (l, 0) N ∷ [], (s₂ ∷ [], (s₃ ∷ [], (s₄ ∷ [], (s₅ ∷ [], (s₆ ∷ [], (s₇ ∷ [], (s₈ ∷ [], (s₉ ∷ [], tt)))))))))))) ∷ []) ∵ says ! (full-fit ys small) $ done !
 
   -- what whoever holds the core's result knows of its head and of what is given back
   head-is : (r : Ended) {vs : List Val} → Is O.the-row r vs → Is R (r .head) (T′.lowered (r .head) ∷ [])
@@ -231,21 +251,25 @@ module _ {M : Type 1} (𝓤 : URA M) (H : Heap 𝓤) (A : Atoms 𝓤) (W : Given
 
   module _ (C : Calls 𝓤 H) (Λ : Loops 𝓤 H) (fm : FmC 𝓤 H (W .laws) C) (known-load : Triple 𝓤 (C #lent·load-rows) (Ld 𝓤 H A at-mem run)) (known-core : Triple 𝓤 (C #lent·batch-rows) (Co 𝓤 H A at-mem run)) (known-store : Triple 𝓤 (C #lent·store-rows) (St 𝓤 H A at-mem run)) where
     abbrev Goal : Type 1
-    Goal = ent 𝓤 (onEntry 𝓤 H A f.signature (κ₀, (κ₁, (κ₂, (κ₃, (κ₄, (κ₅, (κ₆, (κ₇, tt)))))))) (q₀, (q₁, (q₂, (q₃, (q₄, (q₅, (q₆, (q₇, tt)))))))) a at) (WpFn 𝓤 H C Λ code.function (vptr b₀ o₀ ∷ s₁ ∷ s₂ ∷ s₃ ∷ s₄ ∷ s₅ ∷ s₆ ∷ s₇ ∷ []) Post)
+    Goal = ent 𝓤 (onEntry 𝓤 H A f.signature (κ₀, (κ₁, (κ₂, (κ₃, (κ₄, (κ₅, (κ₆, (κ₇, (κ₈, (κ₉, tt)))))))))) (q₀, (q₁, (q₂, (q₃, (q₄, (q₅, (q₆, (q₇, (q₈, (q₉, tt)))))))))) a at) (WpFn 𝓤 H C Λ code.function (vptr b₀ o₀ ∷ s₁ ∷ s₂ ∷ s₃ ∷ s₄ ∷ s₅ ∷ s₆ ∷ s₇ ∷ s₈ ∷ s₉ ∷ []) Post)
 
     many : ltb 4096 (length ys) ≡ true → Goal
     many e =
         let big : 4096 < length ys = ltb-true 4096 (length ys) e in
-        qed W ((‵ (flft κ₀ q₀) ⊛ ‵ (flft κ₁ q₁) ⊛ ‵ (flft κ₂ q₂) ⊛ ‵ (flft κ₃ q₃) ⊛ ‵ (flft κ₄ q₄) ⊛ ‵ (flft κ₅ q₅) ⊛ ‵ (flft κ₆ q₆) ⊛ ‵ (flft κ₇ q₇) ⊛ ‵ ftrue) ∷ ‵ (owns (MutRef (named 0) κ₀ R ∷ MutSlice (named 1) κ₁ S ∷ MutSlice (named 2) κ₂ u32 ∷ MutSlice (named 3) κ₃ u32 ∷ MutSlice (named 4) κ₄ u32 ∷ MutSlice (named 5) κ₅ u8 ∷ ShrSlice (named 6) κ₆ u8 ∷ MutSlice (named 7) κ₇ u8 ∷ []) a at) ∷ []) ∵ enter ! C Λ code.function (vptr b₀ o₀ ∷ s₁ ∷ s₂ ∷ s₃ ∷ s₄ ∷ s₅ ∷ s₆ ∷ s₇ ∷ []) _ $
-        alloc1 ! (λ l₀. alloc1 ! (λ l₁. alloc1 ! (λ l₂. alloc1 ! (λ l₃. alloc1 ! (λ l₄. alloc1 ! (λ l₅. alloc1 ! (λ l₆. alloc1 ! (λ l₇. alloc1 ! (λ l₈. alloc1 ! (λ l₉. alloc1 ! (λ l₁₀. alloc1 ! (λ l₁₁. alloc1 ! (λ l₁₂. alloc1 ! (λ l₁₃. alloc1 ! (λ l₁₄. alloc1 ! (λ l₁₅. alloc1 ! (λ l₁₆. alloc1 ! (λ l₁₇. alloc1 ! (λ l₁₈. alloc1 ! (λ l₁₉. alloc1 ! (λ l₂₀. alloc1 ! (λ l₂₁. alloc1 ! (λ l₂₂. alloc1 ! (λ l₂₃. alloc1 ! (λ l₂₄. alloc1 ! (λ l₂₅. alloc1 ! (λ l₂₆. alloc1 ! (λ l₂₇. alloc1 ! (λ l₂₈. alloc1 ! (λ l₂₉. alloc1 ! (λ l₃₀. alloc1 ! (λ l₃₁. alloc1 ! (λ l₃₂. alloc1 ! (λ l₃₃. alloc1 ! (λ l₃₄. alloc0 ! $ params1 ! $
-        pass1 ! (init ! 66 refl (tt, tt)) $ pass1 ! (init ! 64 refl (tt, (tt, (record { fits = room₁ .0 }, tt)))) $ pass1 ! (init ! 62 refl (tt, (tt, (record { fits = room₂ .0 }, tt)))) $ pass1 ! (init ! 60 refl (tt, (tt, (record { fits = room₃ .0 }, tt)))) $ pass1 ! (init ! 58 refl (tt, (tt, (record { fits = room₄ .0 }, tt)))) $ pass1 ! (init ! 56 refl (tt, (tt, (record { fits = room₅ .0 }, tt)))) $ pass1 ! (init ! 54 refl (tt, (tt, (record { fits = room₆ .0 }, tt)))) $ pass1 ! (init ! 52 refl (tt, (tt, (record { fits = room₇ .0 }, tt)))) $ pass0 ! $
-        assigns ! (of-opd ! (load ! (from ! (fld ! refl (stop !))) (look-in ! 64 (sub ! 1 refl (whole !))))) (from ! (stop !)) (init ! 46 refl (tt, record { fits = room₁ .0 })) $
-        assigns ! (bin ! (big-lit ! (record { fits = lit< tt })) (load ! (from ! (stop !)) (look ! 46 refl)) tt) (from ! (stop !)) (init ! 44 refl (tt, tt)) $
-        rewrite ! 44 (λ (t : Bool). ‵ (fat fullShare tyBool l₁₂ 0 (vbool t))) (e) refl $
-        enters ! (load ! (from ! (stop !)) (look ! 44 refl)) $
-        assigns ! (agg ! (and-then ! (lit ! tt) (and-then ! (lit ! tt) (and-then ! (lit ! tt) (and-then ! (lit ! tt) (and-then ! (lit ! tt) (no-more !))))))) (from ! (stop !)) (init ! 68 refl (LL.lawful Q.the-type Q′.the-laws 𝓤 H A W .typed refused _ refused-is .0)) $
-        returns-within ! Post refl (look ! 68 refl) $
-        move ! (71 ∷ []) $
+        qed W ((‵ (flft κ₀ q₀) ⊛ ‵ (flft κ₁ q₁) ⊛ ‵ (flft κ₂ q₂) ⊛ ‵ (flft κ₃ q₃) ⊛ ‵ (flft κ₄ q₄) ⊛ ‵ (flft κ₅ q₅) ⊛ ‵ (flft κ₆ q₆) ⊛ ‵ (flft κ₇ q₇) ⊛ ‵ (flft κ₈ q₈) ⊛ ‵ (flft κ₉ q₉) ⊛ ‵ ftrue) ∷ ‵ (owns (MutRef (named 0) κ₀ R ∷ MutSlice (named 1) κ₁ S ∷ MutSlice (named 2) κ₂ u32 ∷ MutSlice (named 3) κ₃ u32 ∷ MutSlice (named 4) κ₄ u32 ∷ MutSlice (named 5) κ₅ u8 ∷ MutSlice (named 6) κ₆ u8 ∷ MutSlice (named 7) κ₇ u8 ∷ ShrSlice (named 8) κ₈ u8 ∷ MutSlice (named 9) κ₉ u8 ∷ []) a at) ∷ []) ∵ enter ! C Λ code.function (vptr b₀ o₀ ∷ s₁ ∷ s₂ ∷ s₃ ∷ s₄ ∷ s₅ ∷ s₆ ∷ s₇ ∷ s₈ ∷ s₉ ∷ []) _ $
+        alloc1 ! (λ l₀. alloc1 ! (λ l₁. alloc1 ! (λ l₂. alloc1 ! (λ l₃. alloc1 ! (λ l₄. alloc1 ! (λ l₅. alloc1 ! (λ l₆. alloc1 ! (λ l₇. alloc1 ! (λ l₈. alloc1 ! (λ l₉. alloc1 ! (λ l₁₀. alloc1 ! (λ l₁₁. alloc1 ! (λ l₁₂. alloc1 ! (λ l₁₃. alloc1 ! (λ l₁₄. alloc1 ! (λ l₁₅. alloc1 ! (λ l₁₆. alloc1 ! (λ l₁₇. alloc1 ! (λ l₁₈. alloc1 ! (λ l₁₉. alloc1 ! (λ l₂₀. alloc1 ! (λ l₂₁. alloc1 ! (λ l₂₂. alloc1 ! (λ l₂₃. alloc1 ! (λ l₂₄. alloc1 ! (λ l₂₅. alloc1 ! (λ l₂₆. alloc1 ! (λ l₂₇. alloc1 ! (λ l₂₈. alloc1 ! (λ l₂₉. alloc1 ! (λ l₃₀. alloc1 ! (λ l₃₁. alloc1 ! (λ l₃₂. alloc1 ! (λ l₃₃. alloc1 ! (λ l₃₄. alloc1 ! (λ l₃₅. alloc1 ! (λ l₃₆. alloc1 ! (λ l₃₇. alloc1 ! (λ l₃₈. alloc1 ! (λ l₃₉. alloc1 ! (λ l₄₀. alloc0 ! $ params1 ! $
+        pass1 ! (init ! 78 refl (tt, tt)) $ pass1 ! (init ! 76 refl (tt, (tt, (record { fits = room₁ .0 }, tt)))) $ pass1 ! (init ! 74 refl (tt, (tt, (record { fits = room₂ .0 }, tt)))) $ pass1 ! (init ! 72 refl (tt, (tt, (record { fits = room₃ .0 }, tt)))) $ pass1 ! (init ! 70 refl (tt, (tt, (record { fits = room₄ .0 }, tt)))) $ pass1 ! (init ! 68 refl (tt, (tt, (record { fits = room₅ .0 }, tt)))) $ pass1 ! (init ! 66 refl (tt, (tt, (record { fits = room₆ .0 }, tt)))) $ pass1 ! (init ! 64 refl (tt, (tt, (record { fits = room₇ .0 }, tt)))) $ pass1 ! (init ! 62 refl (tt, (tt, (record { fits = room₈ .0 }, tt)))) $ pass1 ! (init ! 60 refl (tt, (tt, (record { fits = room₉ .0 }, tt)))) $ pass0 ! $
+        assigns ! (of-opd ! (load ! (from ! (fld ! refl (stop !))) (look-in ! 76 (sub ! 1 refl (whole !))))) (from ! (stop !)) (init ! 54 refl (tt, record { fits = room₁ .0 })) $
+        assigns ! (bin ! (big-lit ! (record { fits = lit< tt })) (load ! (from ! (stop !)) (look ! 54 refl)) tt) (from ! (stop !)) (init ! 52 refl (tt, tt)) $
+        rewrite ! 52 (λ (t : Bool). ‵ (fat fullShare tyBool l₁₄ 0 (vbool t))) (e) refl $
+        enters ! (load ! (from ! (stop !)) (look ! 52 refl)) $
+        assigns ! (agg ! (and-then ! (lit ! tt) (and-then ! (lit ! tt) (and-then ! (lit ! tt) (and-then ! (lit ! tt) (and-then ! (lit ! tt) (no-more !))))))) (from ! (stop !)) (init ! 80 refl (LL.lawful Q.the-type Q′.the-laws 𝓤 H A W .typed refused _ refused-is .0)) $
+        returns-within ! Post refl (look ! 80 refl) $
+        move ! (83 ∷ []) $
+        fsplit ! $
+        move ! (1 ∷ []) $
+        fsplit ! $
+        move ! (1 ∷ []) $
         fsplit ! $
         move ! (1 ∷ []) $
         fsplit ! $
@@ -263,36 +287,56 @@ module _ {M : Type 1} (𝓤 : URA M) (H : Heap 𝓤) (A : Atoms 𝓤) (W : Given
         fsplit ! $
         move ! (1 ∷ []) $
         drop ! $
-        move ! (7 ∷ []) $
+        move ! (9 ∷ []) $
         fsplit3 ! $
         drop ! $
-        move ! (79 ∷ []) $
+        move ! (93 ∷ []) $
         split ! $
         move ! (1 ∷ []) $
         split ! $
-        move ! (11 ∷ []) $
+        move ! (13 ∷ []) $
         use1 W (‵ (finally S γ₁ ys)) (gives-slice 𝓤 H A W (named 1) κ₁ S x₁ (s₁ ∷ [])) $
-        move ! (11 ∷ []) $
+        move ! (13 ∷ []) $
         use1 W (‵ (finally u32 γ₂ rt)) (gives-slice 𝓤 H A W (named 2) κ₂ u32 x₂ (s₂ ∷ [])) $
-        move ! (11 ∷ []) $
+        move ! (13 ∷ []) $
         use1 W (‵ (finally u32 γ₃ pt)) (gives-slice 𝓤 H A W (named 3) κ₃ u32 x₃ (s₃ ∷ [])) $
-        move ! (11 ∷ []) $
+        move ! (13 ∷ []) $
         use1 W (‵ (finally u32 γ₄ nt)) (gives-slice 𝓤 H A W (named 4) κ₄ u32 x₄ (s₄ ∷ [])) $
-        move ! (11 ∷ []) $
+        move ! (13 ∷ []) $
         use1 W (‵ (finally u8 γ₅ slab)) (gives-slice 𝓤 H A W (named 5) κ₅ u8 x₅ (s₅ ∷ [])) $
-        move ! (10 ∷ []) $
-        use1 W (‵ (finally u8 γ₇ answers)) (gives-slice 𝓤 H A W (named 7) κ₇ u8 x₇ (s₇ ∷ [])) $
+        move ! (13 ∷ []) $
+        use1 W (‵ (finally u8 γ₆ disk)) (gives-slice 𝓤 H A W (named 6) κ₆ u8 x₆ (s₆ ∷ [])) $
+        move ! (13 ∷ []) $
+        use1 W (‵ (finally u8 γ₇ marks)) (gives-slice 𝓤 H A W (named 7) κ₇ u8 x₇ (s₇ ∷ [])) $
+        move ! (12 ∷ []) $
+        use1 W (‵ (finally u8 γ₉ answers)) (gives-slice 𝓤 H A W (named 9) κ₉ u8 x₉ (s₉ ∷ [])) $
+        forget ! 94 refl $
+        forget ! 92 refl $
+        forget ! 90 refl $
+        forget ! 88 refl $
+        forget ! 86 refl $
+        forget ! 84 refl $
+        forget ! 82 refl $
         forget ! 80 refl $
         forget ! 78 refl $
         forget ! 76 refl $
         forget ! 74 refl $
-        forget ! 72 refl $
-        forget ! 70 refl $
         forget ! 68 refl $
         forget ! 66 refl $
-        forget ! 64 refl $
-        forget ! 58 refl $
-        forget ! 56 refl $
+        move ! (94 ∷ 95 ∷ []) $
+        free1 ! $
+        move ! (92 ∷ 93 ∷ []) $
+        free1 ! $
+        move ! (90 ∷ 91 ∷ []) $
+        free1 ! $
+        move ! (88 ∷ 89 ∷ []) $
+        free1 ! $
+        move ! (86 ∷ 87 ∷ []) $
+        free1 ! $
+        move ! (84 ∷ 85 ∷ []) $
+        free1 ! $
+        move ! (82 ∷ 83 ∷ []) $
+        free1 ! $
         move ! (80 ∷ 81 ∷ []) $
         free1 ! $
         move ! (78 ∷ 79 ∷ []) $
@@ -361,28 +405,30 @@ module _ {M : Type 1} (𝓤 : URA M) (H : Heap 𝓤) (A : Atoms 𝓤) (W : Given
         free1 ! $
         move ! (14 ∷ 15 ∷ []) $
         free1 ! $
-        move ! (12 ∷ 13 ∷ []) $
-        free1 ! $
         free0 ! $
-        keep ! (9 ∷ 10 ∷ 8 ∷ 6 ∷ 7 ∷ 5 ∷ 4 ∷ 3 ∷ 2 ∷ 1 ∷ 0 ∷ 11 ∷ []) $
-        by ! (exits refused h ys rt pt nt slab answers (many-batch-leaves h (lent ys rt pt nt slab) big input answers) (many-read h (lent ys rt pt nt slab) big) refl refl refl refl refl refl refused-is))))))))))))))))))))))))))))))))))))
+        keep ! (11 ∷ 12 ∷ 10 ∷ 8 ∷ 9 ∷ 7 ∷ 6 ∷ 5 ∷ 4 ∷ 3 ∷ 2 ∷ 1 ∷ 0 ∷ 13 ∷ []) $
+        by ! (exits refused h ys rt pt nt slab disk marks answers (many-batch-leaves h (lent ys rt pt nt slab) big (diskOf disk marks) input answers) (many-disk h (lent ys rt pt nt slab) big (diskOf disk marks) input (length answers)) (many-read h (lent ys rt pt nt slab) big) refl refl refl refl refl refl refl refl refused-is))))))))))))))))))))))))))))))))))))))))))
 
     few : ltb 4096 (length ys) ≡ false → Goal
     few e =
         let small : length ys ≤ 4096 = ltb-false 4096 (length ys) e in
-        qed W ((‵ (flft κ₀ q₀) ⊛ ‵ (flft κ₁ q₁) ⊛ ‵ (flft κ₂ q₂) ⊛ ‵ (flft κ₃ q₃) ⊛ ‵ (flft κ₄ q₄) ⊛ ‵ (flft κ₅ q₅) ⊛ ‵ (flft κ₆ q₆) ⊛ ‵ (flft κ₇ q₇) ⊛ ‵ ftrue) ∷ ‵ (owns (MutRef (named 0) κ₀ R ∷ MutSlice (named 1) κ₁ S ∷ MutSlice (named 2) κ₂ u32 ∷ MutSlice (named 3) κ₃ u32 ∷ MutSlice (named 4) κ₄ u32 ∷ MutSlice (named 5) κ₅ u8 ∷ ShrSlice (named 6) κ₆ u8 ∷ MutSlice (named 7) κ₇ u8 ∷ []) a at) ∷ []) ∵ enter ! C Λ code.function (vptr b₀ o₀ ∷ s₁ ∷ s₂ ∷ s₃ ∷ s₄ ∷ s₅ ∷ s₆ ∷ s₇ ∷ []) _ $
-        alloc1 ! (λ l₀. alloc1 ! (λ l₁. alloc1 ! (λ l₂. alloc1 ! (λ l₃. alloc1 ! (λ l₄. alloc1 ! (λ l₅. alloc1 ! (λ l₆. alloc1 ! (λ l₇. alloc1 ! (λ l₈. alloc1 ! (λ l₉. alloc1 ! (λ l₁₀. alloc1 ! (λ l₁₁. alloc1 ! (λ l₁₂. alloc1 ! (λ l₁₃. alloc1 ! (λ l₁₄. alloc1 ! (λ l₁₅. alloc1 ! (λ l₁₆. alloc1 ! (λ l₁₇. alloc1 ! (λ l₁₈. alloc1 ! (λ l₁₉. alloc1 ! (λ l₂₀. alloc1 ! (λ l₂₁. alloc1 ! (λ l₂₂. alloc1 ! (λ l₂₃. alloc1 ! (λ l₂₄. alloc1 ! (λ l₂₅. alloc1 ! (λ l₂₆. alloc1 ! (λ l₂₇. alloc1 ! (λ l₂₈. alloc1 ! (λ l₂₉. alloc1 ! (λ l₃₀. alloc1 ! (λ l₃₁. alloc1 ! (λ l₃₂. alloc1 ! (λ l₃₃. alloc1 ! (λ l₃₄. alloc0 ! $ params1 ! $
-        pass1 ! (init ! 66 refl (tt, tt)) $ pass1 ! (init ! 64 refl (tt, (tt, (record { fits = room₁ .0 }, tt)))) $ pass1 ! (init ! 62 refl (tt, (tt, (record { fits = room₂ .0 }, tt)))) $ pass1 ! (init ! 60 refl (tt, (tt, (record { fits = room₃ .0 }, tt)))) $ pass1 ! (init ! 58 refl (tt, (tt, (record { fits = room₄ .0 }, tt)))) $ pass1 ! (init ! 56 refl (tt, (tt, (record { fits = room₅ .0 }, tt)))) $ pass1 ! (init ! 54 refl (tt, (tt, (record { fits = room₆ .0 }, tt)))) $ pass1 ! (init ! 52 refl (tt, (tt, (record { fits = room₇ .0 }, tt)))) $ pass0 ! $
-        assigns ! (of-opd ! (load ! (from ! (fld ! refl (stop !))) (look-in ! 64 (sub ! 1 refl (whole !))))) (from ! (stop !)) (init ! 46 refl (tt, record { fits = room₁ .0 })) $
-        assigns ! (bin ! (big-lit ! (record { fits = lit< tt })) (load ! (from ! (stop !)) (look ! 46 refl)) tt) (from ! (stop !)) (init ! 44 refl (tt, tt)) $
-        rewrite ! 44 (λ (t : Bool). ‵ (fat fullShare tyBool l₁₂ 0 (vbool t))) (e) refl $
-        falls ! (load ! (from ! (stop !)) (look ! 44 refl)) $
+        qed W ((‵ (flft κ₀ q₀) ⊛ ‵ (flft κ₁ q₁) ⊛ ‵ (flft κ₂ q₂) ⊛ ‵ (flft κ₃ q₃) ⊛ ‵ (flft κ₄ q₄) ⊛ ‵ (flft κ₅ q₅) ⊛ ‵ (flft κ₆ q₆) ⊛ ‵ (flft κ₇ q₇) ⊛ ‵ (flft κ₈ q₈) ⊛ ‵ (flft κ₉ q₉) ⊛ ‵ ftrue) ∷ ‵ (owns (MutRef (named 0) κ₀ R ∷ MutSlice (named 1) κ₁ S ∷ MutSlice (named 2) κ₂ u32 ∷ MutSlice (named 3) κ₃ u32 ∷ MutSlice (named 4) κ₄ u32 ∷ MutSlice (named 5) κ₅ u8 ∷ MutSlice (named 6) κ₆ u8 ∷ MutSlice (named 7) κ₇ u8 ∷ ShrSlice (named 8) κ₈ u8 ∷ MutSlice (named 9) κ₉ u8 ∷ []) a at) ∷ []) ∵ enter ! C Λ code.function (vptr b₀ o₀ ∷ s₁ ∷ s₂ ∷ s₃ ∷ s₄ ∷ s₅ ∷ s₆ ∷ s₇ ∷ s₈ ∷ s₉ ∷ []) _ $
+        alloc1 ! (λ l₀. alloc1 ! (λ l₁. alloc1 ! (λ l₂. alloc1 ! (λ l₃. alloc1 ! (λ l₄. alloc1 ! (λ l₅. alloc1 ! (λ l₆. alloc1 ! (λ l₇. alloc1 ! (λ l₈. alloc1 ! (λ l₉. alloc1 ! (λ l₁₀. alloc1 ! (λ l₁₁. alloc1 ! (λ l₁₂. alloc1 ! (λ l₁₃. alloc1 ! (λ l₁₄. alloc1 ! (λ l₁₅. alloc1 ! (λ l₁₆. alloc1 ! (λ l₁₇. alloc1 ! (λ l₁₈. alloc1 ! (λ l₁₉. alloc1 ! (λ l₂₀. alloc1 ! (λ l₂₁. alloc1 ! (λ l₂₂. alloc1 ! (λ l₂₃. alloc1 ! (λ l₂₄. alloc1 ! (λ l₂₅. alloc1 ! (λ l₂₆. alloc1 ! (λ l₂₇. alloc1 ! (λ l₂₈. alloc1 ! (λ l₂₉. alloc1 ! (λ l₃₀. alloc1 ! (λ l₃₁. alloc1 ! (λ l₃₂. alloc1 ! (λ l₃₃. alloc1 ! (λ l₃₄. alloc1 ! (λ l₃₅. alloc1 ! (λ l₃₆. alloc1 ! (λ l₃₇. alloc1 ! (λ l₃₈. alloc1 ! (λ l₃₉. alloc1 ! (λ l₄₀. alloc0 ! $ params1 ! $
+        pass1 ! (init ! 78 refl (tt, tt)) $ pass1 ! (init ! 76 refl (tt, (tt, (record { fits = room₁ .0 }, tt)))) $ pass1 ! (init ! 74 refl (tt, (tt, (record { fits = room₂ .0 }, tt)))) $ pass1 ! (init ! 72 refl (tt, (tt, (record { fits = room₃ .0 }, tt)))) $ pass1 ! (init ! 70 refl (tt, (tt, (record { fits = room₄ .0 }, tt)))) $ pass1 ! (init ! 68 refl (tt, (tt, (record { fits = room₅ .0 }, tt)))) $ pass1 ! (init ! 66 refl (tt, (tt, (record { fits = room₆ .0 }, tt)))) $ pass1 ! (init ! 64 refl (tt, (tt, (record { fits = room₇ .0 }, tt)))) $ pass1 ! (init ! 62 refl (tt, (tt, (record { fits = room₈ .0 }, tt)))) $ pass1 ! (init ! 60 refl (tt, (tt, (record { fits = room₉ .0 }, tt)))) $ pass0 ! $
+        assigns ! (of-opd ! (load ! (from ! (fld ! refl (stop !))) (look-in ! 76 (sub ! 1 refl (whole !))))) (from ! (stop !)) (init ! 54 refl (tt, record { fits = room₁ .0 })) $
+        assigns ! (bin ! (big-lit ! (record { fits = lit< tt })) (load ! (from ! (stop !)) (look ! 54 refl)) tt) (from ! (stop !)) (init ! 52 refl (tt, tt)) $
+        rewrite ! 52 (λ (t : Bool). ‵ (fat fullShare tyBool l₁₄ 0 (vbool t))) (e) refl $
+        falls ! (load ! (from ! (stop !)) (look ! 52 refl)) $
         -- the table is made, and stands as its elements from now on
-        assigns ! (rep ! N (lit ! tt)) (from ! (stop !)) (init ! 50 refl (repeat-typed u32 0 (vint w32 0) zero-is 𝓤 H A W N (uint-lawful 𝓤 H A W w32))) $
+        assigns ! (rep ! N (lit ! tt)) (from ! (stop !)) (init ! 58 refl (repeat-typed u32 0 (vint w32 0) zero-is 𝓤 H A W N (uint-lawful 𝓤 H A W w32))) $
         use0 W (‵ (Array u32 N .own zeros (repeat-val N (vint w32 0) ∷ []))) (repeat-own u32 0 (vint w32 0) zero-is 𝓤 H A W N (uint-makes 𝓤 H A W w32) (uint-copy 𝓤 H A W w32)) $
-        move ! (51 ∷ 0 ∷ []) $
-        use2 W (‵ (here u32 N l₉ zeros)) (array-in 𝓤 H A W u32 N l₉ tt zeros (repeat-val N (vint w32 0))) $
-        move ! (71 ∷ []) $
+        move ! (59 ∷ 0 ∷ []) $
+        use2 W (‵ (here u32 N l₁₁ zeros)) (array-in 𝓤 H A W u32 N l₁₁ tt zeros (repeat-val N (vint w32 0))) $
+        move ! (83 ∷ []) $
+        fsplit ! $
+        move ! (1 ∷ []) $
+        fsplit ! $
+        move ! (1 ∷ []) $
         fsplit ! $
         move ! (1 ∷ []) $
         fsplit ! $
@@ -400,26 +446,26 @@ module _ {M : Type 1} (𝓤 : URA M) (H : Heap 𝓤) (A : Atoms 𝓤) (W : Given
         fsplit ! $
         move ! (1 ∷ []) $
         drop ! $
-        move ! (7 ∷ []) $
+        move ! (9 ∷ []) $
         fsplit3 ! $
         drop ! $
-        move ! (79 ∷ []) $
+        move ! (93 ∷ []) $
         split ! $
         move ! (1 ∷ []) $
         split ! $
         -- ---- load_rows(&*branches, &mut table)
-        assigns ! (addr ! (from ! (fld ! refl (hop ! (look-in ! 76 (sub ! 0 refl (whole !))) (stop !))))) (from ! (stop !)) (init ! 53 refl (tt, tt)) $
-        assigns ! (agg ! (and-then ! (load ! (from ! (stop !)) (look ! 53 refl)) (and-then ! (load ! (from ! (fld ! refl (stop !))) (look-in ! 76 (sub ! 1 refl (whole !)))) (no-more !)))) (from ! (stop !)) (init ! 51 refl (tt, (tt, (record { fits = room₁ .0 }, tt)))) $
-        assigns ! (addr ! (from ! (stop !))) (from ! (stop !)) (init ! 49 refl (tt, tt)) $
-        assigns ! (agg ! (and-then ! (load ! (from ! (stop !)) (look ! 49 refl)) (and-then ! (big-lit ! (record { fits = lit< tt })) (no-more !)))) (from ! (stop !)) (init ! 47 refl (tt, (tt, (record { fits = lit< tt }, tt)))) $
+        assigns ! (addr ! (from ! (fld ! refl (hop ! (look-in ! 90 (sub ! 0 refl (whole !))) (stop !))))) (from ! (stop !)) (init ! 63 refl (tt, tt)) $
+        assigns ! (agg ! (and-then ! (load ! (from ! (stop !)) (look ! 63 refl)) (and-then ! (load ! (from ! (fld ! refl (stop !))) (look-in ! 90 (sub ! 1 refl (whole !)))) (no-more !)))) (from ! (stop !)) (init ! 61 refl (tt, (tt, (record { fits = room₁ .0 }, tt)))) $
+        assigns ! (addr ! (from ! (stop !))) (from ! (stop !)) (init ! 59 refl (tt, tt)) $
+        assigns ! (agg ! (and-then ! (load ! (from ! (stop !)) (look ! 59 refl)) (and-then ! (big-lit ! (record { fits = lit< tt })) (no-more !)))) (from ! (stop !)) (init ! 57 refl (tt, (tt, (record { fits = lit< tt }, tt)))) $
         lft-new ! tt (λ ν.
         lft-new ! tt (λ μ.
-        move ! (13 ∷ 2 ∷ []) $
+        move ! (15 ∷ 2 ∷ []) $
         use2 W (later (some (λ (δ : GName). ‵ (ShrSlice (named 0) (ν ∷ []) S .own (record { ptr = (b₁, o₁); name = δ; now = ys }) (s₁ ∷ [])) ⊛ ‵ (LentShared S κ₁ (ν ∷ []) q₁ γ₁ b₁ o₁ 𝓤 H A W (named 1) (named 0) ys)))) (lends-shared S κ₁ (ν ∷ []) q₁ γ₁ b₁ o₁ 𝓤 H A W (named 1) (named 0) ys) $ await ! tt $
         pick ! (λ δ.
         split ! $
-        move ! (14 ∷ []) $
-        use1 W (later (some (λ (ε : GName). ‵ (MutSlice (named 1) (μ ∷ []) u32 .own (at-list l₉ ε zeros) (sliceVal (l₉, 0) N ∷ [])) ⊛ ‵ (flent (μ ∷ []) (Held u32 N l₉ 0 ε))))) (lends-local 𝓤 H A W u32 N l₉ (named 1) (μ ∷ []) zeros n-room) $ await ! tt $
+        move ! (16 ∷ []) $
+        use1 W (later (some (λ (ε : GName). ‵ (MutSlice (named 1) (μ ∷ []) u32 .own (at-list l₁₁ ε zeros) (sliceVal (l₁₁, 0) N ∷ [])) ⊛ ‵ (flent (μ ∷ []) (Held u32 N l₁₁ 0 ε))))) (lends-local 𝓤 H A W u32 N l₁₁ (named 1) (μ ∷ []) zeros n-room) $ await ! tt $
         pick ! (λ ε.
         split ! $
         nothing ! $
@@ -428,14 +474,14 @@ module _ {M : Type 1} (𝓤 : URA M) (H : Heap 𝓤) (A : Atoms 𝓤) (W : Given
         move ! (5 ∷ 0 ∷ []) $
         join ! $
         move ! (0 ∷ 3 ∷ 1 ∷ []) $
-        use3 W (raw (Ld 𝓤 H A at-mem run .pre (to-load ys small 𝓤 H A W at-mem run κ₁ q₁ b₁ o₁ γ₁ l₉ ν μ δ ε))) (goes-load ys small 𝓤 H A W at-mem run κ₁ q₁ b₁ o₁ γ₁ l₉ ν μ δ ε) $
-        -- context: [call; ltable; lrows; tkrest; tk; hobs; hbor; own-answers; own-input; own-slab; own-nt; own-pt; own-rt; _34; _33; _32; _31; _30; _29; _28; _27; _26; _25; _24; _23; _22; _21; _20; _19; _18; _17; _16; _15; _14; _13; _12; _11; _10; _8; _7; _6; _5; _4; _3; _2; _1; _0]
-        calls-at ! fm (Ld 𝓤 H A at-mem run) known-load (to-load ys small 𝓤 H A W at-mem run κ₁ q₁ b₁ o₁ γ₁ l₉ ν μ δ ε) (and-then ! (load ! (from ! (stop !)) (look ! 51 refl)) (and-then ! (load ! (from ! (stop !)) (look ! 47 refl)) (no-more !))) (λ w.
-        use1 W (later (some (λ (v : Unit {0}). ((‵ (flft (ν ∷ []) fullShare) ⊛ ‵ (flft (μ ∷ []) fullShare) ⊛ ‵ ftrue) ⊛ ‵ (unit .own v (w ∷ []))) ⊛ raw (ensured 𝓤 H A ld.ended (ld.clauses 𝓤 H A at-mem run) (ν ∷ [], (μ ∷ [], tt)) ((record { ptr = (b₁, o₁); name = δ; now = ys }), (at-list l₉ ε zeros, tt)) tt v)))) (id⊢ 𝓤 _) $ await ! tt $
+        use3 W (raw (Ld 𝓤 H A at-mem run .pre (to-load ys small 𝓤 H A W at-mem run κ₁ q₁ b₁ o₁ γ₁ l₁₁ ν μ δ ε))) (goes-load ys small 𝓤 H A W at-mem run κ₁ q₁ b₁ o₁ γ₁ l₁₁ ν μ δ ε) $
+        -- context: [call; ltable; lrows; tkrest; tk; hobs; hbor; own-answers; own-input; own-marks; own-disk; own-slab; own-nt; own-pt; own-rt; _40; _39; _38; _37; _36; _35; _34; _33; _32; _31; _30; _29; _28; _27; _26; _25; _24; _23; _22; _21; _20; _19; _18; _17; _16; _15; _14; _13; _12; _10; _9; _8; _7; _6; _5; _4; _3; _2; _1; _0]
+        calls-at ! fm (Ld 𝓤 H A at-mem run) known-load (to-load ys small 𝓤 H A W at-mem run κ₁ q₁ b₁ o₁ γ₁ l₁₁ ν μ δ ε) (and-then ! (load ! (from ! (stop !)) (look ! 61 refl)) (and-then ! (load ! (from ! (stop !)) (look ! 57 refl)) (no-more !))) (λ w.
+        use1 W (later (some (λ (v : Unit {0}). ((‵ (flft (ν ∷ []) fullShare) ⊛ ‵ (flft (μ ∷ []) fullShare) ⊛ ‵ ftrue) ⊛ ‵ (unit .own v (w ∷ []))) ⊛ raw (ensured 𝓤 H A ld.ended (ld.clauses 𝓤 H A at-mem run) (ν ∷ [], (μ ∷ [], tt)) ((record { ptr = (b₁, o₁); name = δ; now = ys }), (at-list l₁₁ ε zeros, tt)) tt v)))) (id⊢ 𝓤 _) $ await ! tt $
         pick ! (λ v.
         split ! $
         move ! (1 ∷ []) $
-        use1 W (some (λ (zs : Unit {0} × (List ℕ × Unit {0})). ‵ (lasts ld.ended (ν ∷ [], (μ ∷ [], tt)) ((record { ptr = (b₁, o₁); name = δ; now = ys }), (at-list l₉ ε zeros, tt)) zs) ⊛ raw (fact 𝓤 (zs .1 .0 ≡ full ys)))) (id⊢ 𝓤 _) $
+        use1 W (some (λ (zs : Unit {0} × (List ℕ × Unit {0})). ‵ (lasts ld.ended (ν ∷ [], (μ ∷ [], tt)) ((record { ptr = (b₁, o₁); name = δ; now = ys }), (at-list l₁₁ ε zeros, tt)) zs) ⊛ raw (fact 𝓤 (zs .1 .0 ≡ full ys)))) (id⊢ 𝓤 _) $
         pick ! (λ zs.
         split ! $
         move ! (1 ∷ []) $
@@ -453,8 +499,8 @@ module _ {M : Type 1} (𝓤 : URA M) (H : Heap 𝓤) (A : Atoms 𝓤) (W : Given
         move ! (1 ∷ []) $
         peeks ! unit (Is unit) (shows 𝓤 H A unit) v (w ∷ []) (λ is-unit.
         drop ! $
-        land ! (from ! (stop !)) (init ! 56 refl (nothing-lawful 𝓤 H A W .typed v _ is-unit .0)) $
-        forget ! 56 refl $
+        land ! (from ! (stop !)) (init ! 66 refl (nothing-lawful 𝓤 H A W .typed v _ is-unit .0)) $
+        forget ! 66 refl $
         -- both lifetimes are ended, and what was lent comes back
         split ! $
         lft-end ! tt $
@@ -467,36 +513,40 @@ module _ {M : Type 1} (𝓤 : URA M) (H : Heap 𝓤) (A : Atoms 𝓤) (W : Given
         use2 W (later (‵ (MutSlice (named 1) κ₁ S .own x₁ (s₁ ∷ [])) ⊛ ‵ (flft κ₁ q₁))) (shared-back S κ₁ (ν ∷ []) q₁ γ₁ b₁ o₁ 𝓤 H A W (named 1) (named 0) ys room₁) $ await ! tt $
         split ! $
         move ! (2 ∷ 4 ∷ 3 ∷ []) $
-        use3 W (later (‵ (here u32 N l₉ (zs .1 .0)))) (local-back 𝓤 H A W u32 N l₉ (μ ∷ []) ε (zs .1 .0)) $ await ! tt $
-        rewrite ! 0 (λ (u : List ℕ). ‵ (here u32 N l₉ u)) (e-load) refl $
+        use3 W (later (‵ (here u32 N l₁₁ (zs .1 .0)))) (local-back 𝓤 H A W u32 N l₁₁ (μ ∷ []) ε (zs .1 .0)) $ await ! tt $
+        rewrite ! 0 (λ (u : List ℕ). ‵ (here u32 N l₁₁ u)) (e-load) refl $
         -- ---- the borrow of the head is opened, and stays open; batch_rows(*head, .., &mut table, ..)
         move ! (5 ∷ 6 ∷ 4 ∷ []) $
         opens ! tt R {h = h} b₀ o₀ (λ vs. spelt ! R (Is R) (shows 𝓤 H A R) (LL.vals T.the-type T′.the-laws) (LL.tells T.the-type T′.the-laws) fullShare h vs b₀ o₀ $
         move ! (1 ∷ []) $
         peeks ! R (Is R) (shows 𝓤 H A R) h (LL.vals T.the-type T′.the-laws h) (λ was.
         drop ! $
-        assigns ! (of-opd ! (load ! (from ! (hop ! (look ! 79 refl) (stop !))) (look-raw ! 0 refl))) (from ! (stop !)) (init ! 46 refl (LL.lawful T.the-type T′.the-laws 𝓤 H A W .typed h _ was .0)) $
-        forget ! 60 refl $
-        assigns ! (of-opd ! (load ! (from ! (fld ! refl (stop !))) (look-in ! 77 (sub ! 1 refl (whole !))))) (from ! (stop !)) (init ! 60 refl (tt, record { fits = room₁ .0 })) $
-        assigns ! (addr ! (from ! (stop !))) (from ! (stop !)) (init ! 44 refl (tt, tt)) $
-        assigns ! (agg ! (and-then ! (load ! (from ! (stop !)) (look ! 44 refl)) (and-then ! (big-lit ! (record { fits = lit< tt })) (no-more !)))) (from ! (stop !)) (init ! 42 refl (tt, (tt, (record { fits = lit< tt }, tt)))) $
-        assigns ! (addr ! (from ! (fld ! refl (hop ! (look-in ! 75 (sub ! 0 refl (whole !))) (stop !))))) (from ! (stop !)) (init ! 40 refl (tt, tt)) $
-        assigns ! (agg ! (and-then ! (load ! (from ! (stop !)) (look ! 40 refl)) (and-then ! (load ! (from ! (fld ! refl (stop !))) (look-in ! 75 (sub ! 1 refl (whole !)))) (no-more !)))) (from ! (stop !)) (init ! 38 refl (tt, (tt, (record { fits = room₂ .0 }, tt)))) $
-        assigns ! (addr ! (from ! (fld ! refl (hop ! (look-in ! 73 (sub ! 0 refl (whole !))) (stop !))))) (from ! (stop !)) (init ! 36 refl (tt, tt)) $
-        assigns ! (agg ! (and-then ! (load ! (from ! (stop !)) (look ! 36 refl)) (and-then ! (load ! (from ! (fld ! refl (stop !))) (look-in ! 73 (sub ! 1 refl (whole !)))) (no-more !)))) (from ! (stop !)) (init ! 34 refl (tt, (tt, (record { fits = room₃ .0 }, tt)))) $
-        assigns ! (addr ! (from ! (fld ! refl (hop ! (look-in ! 71 (sub ! 0 refl (whole !))) (stop !))))) (from ! (stop !)) (init ! 32 refl (tt, tt)) $
-        assigns ! (agg ! (and-then ! (load ! (from ! (stop !)) (look ! 32 refl)) (and-then ! (load ! (from ! (fld ! refl (stop !))) (look-in ! 71 (sub ! 1 refl (whole !)))) (no-more !)))) (from ! (stop !)) (init ! 30 refl (tt, (tt, (record { fits = room₄ .0 }, tt)))) $
-        assigns ! (addr ! (from ! (fld ! refl (hop ! (look-in ! 69 (sub ! 0 refl (whole !))) (stop !))))) (from ! (stop !)) (init ! 28 refl (tt, tt)) $
-        assigns ! (agg ! (and-then ! (load ! (from ! (stop !)) (look ! 28 refl)) (and-then ! (load ! (from ! (fld ! refl (stop !))) (look-in ! 69 (sub ! 1 refl (whole !)))) (no-more !)))) (from ! (stop !)) (init ! 26 refl (tt, (tt, (record { fits = room₅ .0 }, tt)))) $
-        assigns ! (addr ! (from ! (fld ! refl (hop ! (look-in ! 65 (sub ! 0 refl (whole !))) (stop !))))) (from ! (stop !)) (init ! 24 refl (tt, tt)) $
-        assigns ! (agg ! (and-then ! (load ! (from ! (stop !)) (look ! 24 refl)) (and-then ! (load ! (from ! (fld ! refl (stop !))) (look-in ! 65 (sub ! 1 refl (whole !)))) (no-more !)))) (from ! (stop !)) (init ! 22 refl (tt, (tt, (record { fits = room₇ .0 }, tt)))) $
+        assigns ! (of-opd ! (load ! (from ! (hop ! (look ! 93 refl) (stop !))) (look-raw ! 0 refl))) (from ! (stop !)) (init ! 56 refl (LL.lawful T.the-type T′.the-laws 𝓤 H A W .typed h _ was .0)) $
+        forget ! 70 refl $
+        assigns ! (of-opd ! (load ! (from ! (fld ! refl (stop !))) (look-in ! 91 (sub ! 1 refl (whole !))))) (from ! (stop !)) (init ! 70 refl (tt, record { fits = room₁ .0 })) $
+        assigns ! (addr ! (from ! (stop !))) (from ! (stop !)) (init ! 54 refl (tt, tt)) $
+        assigns ! (agg ! (and-then ! (load ! (from ! (stop !)) (look ! 54 refl)) (and-then ! (big-lit ! (record { fits = lit< tt })) (no-more !)))) (from ! (stop !)) (init ! 52 refl (tt, (tt, (record { fits = lit< tt }, tt)))) $
+        assigns ! (addr ! (from ! (fld ! refl (hop ! (look-in ! 89 (sub ! 0 refl (whole !))) (stop !))))) (from ! (stop !)) (init ! 50 refl (tt, tt)) $
+        assigns ! (agg ! (and-then ! (load ! (from ! (stop !)) (look ! 50 refl)) (and-then ! (load ! (from ! (fld ! refl (stop !))) (look-in ! 89 (sub ! 1 refl (whole !)))) (no-more !)))) (from ! (stop !)) (init ! 48 refl (tt, (tt, (record { fits = room₂ .0 }, tt)))) $
+        assigns ! (addr ! (from ! (fld ! refl (hop ! (look-in ! 87 (sub ! 0 refl (whole !))) (stop !))))) (from ! (stop !)) (init ! 46 refl (tt, tt)) $
+        assigns ! (agg ! (and-then ! (load ! (from ! (stop !)) (look ! 46 refl)) (and-then ! (load ! (from ! (fld ! refl (stop !))) (look-in ! 87 (sub ! 1 refl (whole !)))) (no-more !)))) (from ! (stop !)) (init ! 44 refl (tt, (tt, (record { fits = room₃ .0 }, tt)))) $
+        assigns ! (addr ! (from ! (fld ! refl (hop ! (look-in ! 85 (sub ! 0 refl (whole !))) (stop !))))) (from ! (stop !)) (init ! 42 refl (tt, tt)) $
+        assigns ! (agg ! (and-then ! (load ! (from ! (stop !)) (look ! 42 refl)) (and-then ! (load ! (from ! (fld ! refl (stop !))) (look-in ! 85 (sub ! 1 refl (whole !)))) (no-more !)))) (from ! (stop !)) (init ! 40 refl (tt, (tt, (record { fits = room₄ .0 }, tt)))) $
+        assigns ! (addr ! (from ! (fld ! refl (hop ! (look-in ! 83 (sub ! 0 refl (whole !))) (stop !))))) (from ! (stop !)) (init ! 38 refl (tt, tt)) $
+        assigns ! (agg ! (and-then ! (load ! (from ! (stop !)) (look ! 38 refl)) (and-then ! (load ! (from ! (fld ! refl (stop !))) (look-in ! 83 (sub ! 1 refl (whole !)))) (no-more !)))) (from ! (stop !)) (init ! 36 refl (tt, (tt, (record { fits = room₅ .0 }, tt)))) $
+        assigns ! (addr ! (from ! (fld ! refl (hop ! (look-in ! 81 (sub ! 0 refl (whole !))) (stop !))))) (from ! (stop !)) (init ! 34 refl (tt, tt)) $
+        assigns ! (agg ! (and-then ! (load ! (from ! (stop !)) (look ! 34 refl)) (and-then ! (load ! (from ! (fld ! refl (stop !))) (look-in ! 81 (sub ! 1 refl (whole !)))) (no-more !)))) (from ! (stop !)) (init ! 32 refl (tt, (tt, (record { fits = room₆ .0 }, tt)))) $
+        assigns ! (addr ! (from ! (fld ! refl (hop ! (look-in ! 79 (sub ! 0 refl (whole !))) (stop !))))) (from ! (stop !)) (init ! 30 refl (tt, tt)) $
+        assigns ! (agg ! (and-then ! (load ! (from ! (stop !)) (look ! 30 refl)) (and-then ! (load ! (from ! (fld ! refl (stop !))) (look-in ! 79 (sub ! 1 refl (whole !)))) (no-more !)))) (from ! (stop !)) (init ! 28 refl (tt, (tt, (record { fits = room₇ .0 }, tt)))) $
+        assigns ! (addr ! (from ! (fld ! refl (hop ! (look-in ! 75 (sub ! 0 refl (whole !))) (stop !))))) (from ! (stop !)) (init ! 26 refl (tt, tt)) $
+        assigns ! (agg ! (and-then ! (load ! (from ! (stop !)) (look ! 26 refl)) (and-then ! (load ! (from ! (fld ! refl (stop !))) (look-in ! 75 (sub ! 1 refl (whole !)))) (no-more !)))) (from ! (stop !)) (init ! 24 refl (tt, (tt, (record { fits = room₉ .0 }, tt)))) $
         lft-new ! tt (λ ν₂.
         move ! (5 ∷ []) $
-        use1 W (later (some (λ (ε₂ : GName). ‵ (MutSlice (named 0) (ν₂ ∷ []) u32 .own (at-list l₉ ε₂ (full ys)) (sliceVal (l₉, 0) N ∷ [])) ⊛ ‵ (flent (ν₂ ∷ []) (Held u32 N l₉ 0 ε₂))))) (lends-local 𝓤 H A W u32 N l₉ (named 0) (ν₂ ∷ []) (full ys) n-room) $ await ! tt $
+        use1 W (later (some (λ (ε₂ : GName). ‵ (MutSlice (named 0) (ν₂ ∷ []) u32 .own (at-list l₁₁ ε₂ (full ys)) (sliceVal (l₁₁, 0) N ∷ [])) ⊛ ‵ (flent (ν₂ ∷ []) (Held u32 N l₁₁ 0 ε₂))))) (lends-local 𝓤 H A W u32 N l₁₁ (named 0) (ν₂ ∷ []) (full ys) n-room) $ await ! tt $
         pick ! (λ ε₂.
         split ! $
         move ! (11 ∷ []) $
-        use1 W (‵ (ShrSlice (named 6) κ₆ u8 .own x₆ (s₆ ∷ [])) ⊛ ‵ (ShrSlice (named 6) κ₆ u8 .own x₆ (s₆ ∷ []))) (shr-slice-copy 𝓤 H A W (named 6) κ₆ u8 .twice x₆ (s₆ ∷ [])) $
+        use1 W (‵ (ShrSlice (named 8) κ₈ u8 .own x₈ (s₈ ∷ [])) ⊛ ‵ (ShrSlice (named 8) κ₈ u8 .own x₈ (s₈ ∷ []))) (shr-slice-copy 𝓤 H A W (named 8) κ₈ u8 .twice x₈ (s₈ ∷ [])) $
         split ! $
         move ! (4 ∷ 11 ∷ []) $
         join ! $
@@ -513,6 +563,10 @@ module _ {M : Type 1} (𝓤 : URA M) (H : Heap 𝓤) (A : Atoms 𝓤) (W : Given
         fjoin ! $
         move ! (11 ∷ 0 ∷ []) $
         fjoin ! $
+        move ! (11 ∷ 0 ∷ []) $
+        fjoin ! $
+        move ! (11 ∷ 0 ∷ []) $
+        fjoin ! $
         move ! (3 ∷ 0 ∷ []) $
         fjoin ! $
         owned ! usize (Is usize) (uint-makes 𝓤 H A W w64) (length ys) _ (refl, room₁ .0) $
@@ -520,21 +574,24 @@ module _ {M : Type 1} (𝓤 : URA M) (H : Heap 𝓤) (A : Atoms 𝓤) (W : Given
         owned ! R (Is R) ((LL.makes T.the-type T′.the-plain) 𝓤 H A) h _ was $
         fjoin ! $
         move ! (1 ∷ 0 ∷ []) $
-        use2 W (raw (Co 𝓤 H A at-mem run .pre (to-core l₉ ν₂ ε₂))) (goes-core small l₉ ν₂ ε₂) $
-        -- context: [call; own-input; ltable; hcell; hobor; hobs; hauth; own-branches; tk1; _34; _33; _32; _31; _30; _29; _28; _27; _26; _25; _24; _23; _22; _21; _20; _19; _18; _17; _16; _15; _14; _13; _12; _11; _10; _8; _7; _6; _5; _4; _3; _2; _1; _0]
-        calls-at ! fm (Co 𝓤 H A at-mem run) known-core (to-core l₉ ν₂ ε₂) (and-then ! (load ! (from ! (stop !)) (look ! 41 refl)) (and-then ! (load ! (from ! (stop !)) (look ! 55 refl)) (and-then ! (load ! (from ! (stop !)) (look ! 37 refl)) (and-then ! (load ! (from ! (stop !)) (look ! 33 refl)) (and-then ! (load ! (from ! (stop !)) (look ! 29 refl)) (and-then ! (load ! (from ! (stop !)) (look ! 25 refl)) (and-then ! (load ! (from ! (stop !)) (look ! 21 refl)) (and-then ! (load ! (from ! (stop !)) (look ! 62 refl)) (and-then ! (load ! (from ! (stop !)) (look ! 17 refl)) (no-more !)))))))))) (λ w₂.
-        use1 W (later (some (λ (r : Ended). ((‵ (flft (ν₂ ∷ []) fullShare) ⊛ ‵ (flft κ₂ q₂) ⊛ ‵ (flft κ₃ q₃) ⊛ ‵ (flft κ₄ q₄) ⊛ ‵ (flft κ₅ q₅) ⊛ ‵ (flft κ₆ q₆) ⊛ ‵ (flft κ₇ q₇) ⊛ ‵ ftrue) ⊛ ‵ (O.the-row .own r (w₂ ∷ []))) ⊛ raw (ensured 𝓤 H A co.ended (co.clauses 𝓤 H A at-mem run) (ν₂ ∷ [], (κ₂, (κ₃, (κ₄, (κ₅, (κ₆, (κ₇, tt))))))) (h, (length ys, (at-list l₉ ε₂ (full ys), (x₂, (x₃, (x₄, (x₅, (x₆, (x₇, tt))))))))) tt r)))) (id⊢ 𝓤 _) $ await ! tt $
+        use2 W (raw (Co 𝓤 H A at-mem run .pre (to-core l₁₁ ν₂ ε₂))) (goes-core small l₁₁ ν₂ ε₂) $
+        -- context: [call; own-input; ltable; hcell; hobor; hobs; hauth; own-branches; tk1; _40; _39; _38; _37; _36; _35; _34; _33; _32; _31; _30; _29; _28; _27; _26; _25; _24; _23; _22; _21; _20; _19; _18; _17; _16; _15; _14; _13; _12; _10; _9; _8; _7; _6; _5; _4; _3; _2; _1; _0]
+        calls-at ! fm (Co 𝓤 H A at-mem run) known-core (to-core l₁₁ ν₂ ε₂) (and-then ! (load ! (from ! (stop !)) (look ! 49 refl)) (and-then ! (load ! (from ! (stop !)) (look ! 63 refl)) (and-then ! (load ! (from ! (stop !)) (look ! 45 refl)) (and-then ! (load ! (from ! (stop !)) (look ! 41 refl)) (and-then ! (load ! (from ! (stop !)) (look ! 37 refl)) (and-then ! (load ! (from ! (stop !)) (look ! 33 refl)) (and-then ! (load ! (from ! (stop !)) (look ! 29 refl)) (and-then ! (load ! (from ! (stop !)) (look ! 25 refl)) (and-then ! (load ! (from ! (stop !)) (look ! 21 refl)) (and-then ! (load ! (from ! (stop !)) (look ! 70 refl)) (and-then ! (load ! (from ! (stop !)) (look ! 17 refl)) (no-more !)))))))))))) (λ w₂.
+        use1 W (later (some (λ (r : Ended). ((‵ (flft (ν₂ ∷ []) fullShare) ⊛ ‵ (flft κ₂ q₂) ⊛ ‵ (flft κ₃ q₃) ⊛ ‵ (flft κ₄ q₄) ⊛ ‵ (flft κ₅ q₅) ⊛ ‵ (flft κ₆ q₆) ⊛ ‵ (flft κ₇ q₇) ⊛ ‵ (flft κ₈ q₈) ⊛ ‵ (flft κ₉ q₉) ⊛ ‵ ftrue) ⊛ ‵ (O.the-row .own r (w₂ ∷ []))) ⊛ raw (ensured 𝓤 H A co.ended (co.clauses 𝓤 H A at-mem run) (ν₂ ∷ [], (κ₂, (κ₃, (κ₄, (κ₅, (κ₆, (κ₇, (κ₈, (κ₉, tt))))))))) (h, (length ys, (at-list l₁₁ ε₂ (full ys), (x₂, (x₃, (x₄, (x₅, (x₆, (x₇, (x₈, (x₉, tt))))))))))) tt r)))) (id⊢ 𝓤 _) $ await ! tt $
         pick ! (λ r.
         split ! $
         move ! (1 ∷ []) $
-        use1 W (some (λ (zs₂ : Unit {0} × (Unit {0} × (List ℕ × (List ℕ × (List ℕ × (List ℕ × (List ℕ × (Unit {0} × (List ℕ × Unit {0}))))))))). ‵ (lasts co.ended (ν₂ ∷ [], (κ₂, (κ₃, (κ₄, (κ₅, (κ₆, (κ₇, tt))))))) (h, (length ys, (at-list l₉ ε₂ (full ys), (x₂, (x₃, (x₄, (x₅, (x₆, (x₇, tt))))))))) zs₂) ⊛ raw (fact 𝓤 (Did r (zs₂ .1 .1 .0) (zs₂ .1 .1 .1 .0) (zs₂ .1 .1 .1 .1 .0) (zs₂ .1 .1 .1 .1 .1 .0) (zs₂ .1 .1 .1 .1 .1 .1 .0) (zs₂ .1 .1 .1 .1 .1 .1 .1 .1 .0))) ⊛ raw (fact 𝓤 (Read (take (length ys) (branchRowsOf (full ys))) (r .report))))) (id⊢ 𝓤 _) $
+        use1 W (some (λ (zs₂ : Unit {0} × (Unit {0} × (List ℕ × (List ℕ × (List ℕ × (List ℕ × (List ℕ × (List ℕ × (List ℕ × (Unit {0} × (List ℕ × Unit {0}))))))))))). ‵ (lasts co.ended (ν₂ ∷ [], (κ₂, (κ₃, (κ₄, (κ₅, (κ₆, (κ₇, (κ₈, (κ₉, tt))))))))) (h, (length ys, (at-list l₁₁ ε₂ (full ys), (x₂, (x₃, (x₄, (x₅, (x₆, (x₇, (x₈, (x₉, tt))))))))))) zs₂) ⊛ raw (fact 𝓤 (Did r (zs₂ .1 .1 .0) (zs₂ .1 .1 .1 .0) (zs₂ .1 .1 .1 .1 .0) (zs₂ .1 .1 .1 .1 .1 .0) (zs₂ .1 .1 .1 .1 .1 .1 .0) (zs₂ .1 .1 .1 .1 .1 .1 .1 .0) (zs₂ .1 .1 .1 .1 .1 .1 .1 .1 .0) (zs₂ .1 .1 .1 .1 .1 .1 .1 .1 .1 .1 .0))) ⊛ raw (fact 𝓤 (Follows (take (length ys) (branchRowsOf (full ys))) (zs₂ .1 .1 .1 .1 .1 .1 .1 .0) (zs₂ .1 .1 .1 .1 .1 .1 .1 .1 .0))) ⊛ raw (fact 𝓤 (Read (take (length ys) (branchRowsOf (full ys))) (r .report))))) (id⊢ 𝓤 _) $
         pick ! (λ zs₂.
         split ! $
         move ! (1 ∷ []) $
         split ! $
         move ! (1 ∷ []) $
+        split ! $
+        move ! (1 ∷ []) $
         heard ! (Read (take (length ys) (branchRowsOf (full ys))) (r .report)) (λ read.
-        heard ! (Did r (zs₂ .1 .1 .0) (zs₂ .1 .1 .1 .0) (zs₂ .1 .1 .1 .1 .0) (zs₂ .1 .1 .1 .1 .1 .0) (zs₂ .1 .1 .1 .1 .1 .1 .0) (zs₂ .1 .1 .1 .1 .1 .1 .1 .1 .0)) (λ did.
+        heard ! (Follows (take (length ys) (branchRowsOf (full ys))) (zs₂ .1 .1 .1 .1 .1 .1 .1 .0) (zs₂ .1 .1 .1 .1 .1 .1 .1 .1 .0)) (λ follows.
+        heard ! (Did r (zs₂ .1 .1 .0) (zs₂ .1 .1 .1 .0) (zs₂ .1 .1 .1 .1 .0) (zs₂ .1 .1 .1 .1 .1 .0) (zs₂ .1 .1 .1 .1 .1 .1 .0) (zs₂ .1 .1 .1 .1 .1 .1 .1 .0) (zs₂ .1 .1 .1 .1 .1 .1 .1 .1 .0) (zs₂ .1 .1 .1 .1 .1 .1 .1 .1 .1 .1 .0)) (λ did.
         fsplit ! $
         drop ! $
         fsplit ! $
@@ -565,6 +622,16 @@ module _ {M : Type 1} (𝓤 : URA M) (H : Heap 𝓤) (A : Atoms 𝓤) (W : Given
         feqL ! (λ same-slab.
         move ! (1 ∷ []) $
         fsplit ! $
+        fsplit ! $
+        move ! (1 ∷ []) $
+        feqL ! (λ same-disk.
+        move ! (1 ∷ []) $
+        fsplit ! $
+        fsplit ! $
+        move ! (1 ∷ []) $
+        feqL ! (λ same-marks.
+        move ! (1 ∷ []) $
+        fsplit ! $
         drop ! $
         fsplit ! $
         fsplit ! $
@@ -572,41 +639,41 @@ module _ {M : Type 1} (𝓤 : URA M) (H : Heap 𝓤) (A : Atoms 𝓤) (W : Given
         feqL ! (λ same-answers.
         move ! (1 ∷ []) $
         drop ! $
-        move ! (6 ∷ []) $
+        move ! (8 ∷ []) $
         split ! $
         move ! (1 ∷ []) $
         peeks ! O.the-row (Is O.the-row) (shows 𝓤 H A O.the-row) r (w₂ ∷ []) (λ is.
         drop ! $
-        land ! (from ! (stop !)) (init ! 63 refl (LL.lawful O.the-type O′.the-laws 𝓤 H A W .typed r _ is .0)) $
-        rewrite ! 63 (λ (u : Val). ‵ (fat fullShare O′.mir l₁₀ 0 u)) (ap only (LL.tells O.the-type O′.the-laws r _ is)) refl $
+        land ! (from ! (stop !)) (init ! 73 refl (LL.lawful O.the-type O′.the-laws 𝓤 H A W .typed r _ is .0)) $
+        rewrite ! 73 (λ (u : Val). ‵ (fat fullShare O′.mir l₁₂ 0 u)) (ap only (LL.tells O.the-type O′.the-laws r _ is)) refl $
         split ! $
         lft-end ! tt $
-        move ! (0 ∷ 9 ∷ 7 ∷ []) $
-        use3 W (later (‵ (here u32 N l₉ (zs₂ .1 .1 .0)))) (local-back 𝓤 H A W u32 N l₉ (ν₂ ∷ []) ε₂ (zs₂ .1 .1 .0)) $ await ! tt $
+        move ! (0 ∷ 11 ∷ 9 ∷ []) $
+        use3 W (later (‵ (here u32 N l₁₁ (zs₂ .1 .1 .0)))) (local-back 𝓤 H A W u32 N l₁₁ (ν₂ ∷ []) ε₂ (zs₂ .1 .1 .0)) $ await ! tt $
         -- ---- store_rows(branches, &table)
-        assigns ! (addr ! (from ! (fld ! refl (hop ! (look-in ! 77 (sub ! 0 refl (whole !))) (stop !))))) (from ! (stop !)) (init ! 20 refl (tt, tt)) $
-        assigns ! (agg ! (and-then ! (load ! (from ! (stop !)) (look ! 20 refl)) (and-then ! (load ! (from ! (fld ! refl (stop !))) (look-in ! 77 (sub ! 1 refl (whole !)))) (no-more !)))) (from ! (stop !)) (init ! 18 refl (tt, (tt, (record { fits = room₁ .0 }, tt)))) $
-        assigns ! (addr ! (from ! (stop !))) (from ! (stop !)) (init ! 16 refl (tt, tt)) $
-        assigns ! (agg ! (and-then ! (load ! (from ! (stop !)) (look ! 16 refl)) (and-then ! (big-lit ! (record { fits = lit< tt })) (no-more !)))) (from ! (stop !)) (init ! 14 refl (tt, (tt, (record { fits = lit< tt }, tt)))) $
+        assigns ! (addr ! (from ! (fld ! refl (hop ! (look-in ! 91 (sub ! 0 refl (whole !))) (stop !))))) (from ! (stop !)) (init ! 22 refl (tt, tt)) $
+        assigns ! (agg ! (and-then ! (load ! (from ! (stop !)) (look ! 22 refl)) (and-then ! (load ! (from ! (fld ! refl (stop !))) (look-in ! 91 (sub ! 1 refl (whole !)))) (no-more !)))) (from ! (stop !)) (init ! 20 refl (tt, (tt, (record { fits = room₁ .0 }, tt)))) $
+        assigns ! (addr ! (from ! (stop !))) (from ! (stop !)) (init ! 18 refl (tt, tt)) $
+        assigns ! (agg ! (and-then ! (load ! (from ! (stop !)) (look ! 18 refl)) (and-then ! (big-lit ! (record { fits = lit< tt })) (no-more !)))) (from ! (stop !)) (init ! 16 refl (tt, (tt, (record { fits = lit< tt }, tt)))) $
         lft-new ! tt (λ ν₃.
         move ! (1 ∷ []) $
-        use1 W (later (some (λ (ε₃ : GName). ‵ (ShrSlice (named 1) (ν₃ ∷ []) u32 .own (at-list l₉ ε₃ (zs₂ .1 .1 .0)) (sliceVal (l₉, 0) N ∷ [])) ⊛ ‵ (flent (ν₃ ∷ []) (here u32 N l₉ (zs₂ .1 .1 .0)))))) (lends-local-shr 𝓤 H A W u32 N l₉ (named 1) (ν₃ ∷ []) (zs₂ .1 .1 .0) n-room) $ await ! tt $
+        use1 W (later (some (λ (ε₃ : GName). ‵ (ShrSlice (named 1) (ν₃ ∷ []) u32 .own (at-list l₁₁ ε₃ (zs₂ .1 .1 .0)) (sliceVal (l₁₁, 0) N ∷ [])) ⊛ ‵ (flent (ν₃ ∷ []) (here u32 N l₁₁ (zs₂ .1 .1 .0)))))) (lends-local-shr 𝓤 H A W u32 N l₁₁ (named 1) (ν₃ ∷ []) (zs₂ .1 .1 .0) n-room) $ await ! tt $
         pick ! (λ ε₃.
         split ! $
         nothing ! $
         move ! (3 ∷ 0 ∷ []) $
         join ! $
-        move ! (15 ∷ 0 ∷ []) $
+        move ! (17 ∷ 0 ∷ []) $
         join ! $
-        move ! (0 ∷ 14 ∷ 1 ∷ []) $
-        use3 W (raw (St 𝓤 H A at-mem run .pre (to-store ys small 𝓤 H A W at-mem run κ₁ q₁ b₁ o₁ γ₁ l₉ (zs₂ .1 .1 .0) ν₃ ε₃))) (goes-store ys small 𝓤 H A W at-mem run κ₁ q₁ b₁ o₁ γ₁ l₉ (zs₂ .1 .1 .0) same-table ν₃ ε₃) $
-        -- context: [call; ltable; tkrest; fin-answers; fin-slab; fin-nt; fin-pt; fin-rt; own-input; hcell; hobor; hobs; hauth; _34; _33; _32; _31; _30; _29; _28; _27; _26; _25; _24; _23; _22; _21; _20; _19; _18; _17; _16; _15; _14; _13; _12; _11; _10; _8; _7; _6; _5; _4; _3; _2; _1; _0]
-        calls-at ! fm (St 𝓤 H A at-mem run) known-store (to-store ys small 𝓤 H A W at-mem run κ₁ q₁ b₁ o₁ γ₁ l₉ (zs₂ .1 .1 .0) ν₃ ε₃) (and-then ! (load ! (from ! (stop !)) (look ! 17 refl)) (and-then ! (load ! (from ! (stop !)) (look ! 13 refl)) (no-more !))) (λ w₃.
-        use1 W (later (some (λ (v₃ : Unit {0}). ((‵ (flft κ₁ q₁) ⊛ ‵ (flft (ν₃ ∷ []) fullShare) ⊛ ‵ ftrue) ⊛ ‵ (unit .own v₃ (w₃ ∷ []))) ⊛ raw (ensured 𝓤 H A st.ended (st.clauses 𝓤 H A at-mem run) (κ₁, (ν₃ ∷ [], tt)) (x₁, (at-list l₉ ε₃ (zs₂ .1 .1 .0), tt)) tt v₃)))) (id⊢ 𝓤 _) $ await ! tt $
+        move ! (0 ∷ 16 ∷ 1 ∷ []) $
+        use3 W (raw (St 𝓤 H A at-mem run .pre (to-store ys small 𝓤 H A W at-mem run κ₁ q₁ b₁ o₁ γ₁ l₁₁ (zs₂ .1 .1 .0) ν₃ ε₃))) (goes-store ys small 𝓤 H A W at-mem run κ₁ q₁ b₁ o₁ γ₁ l₁₁ (zs₂ .1 .1 .0) same-table ν₃ ε₃) $
+        -- context: [call; ltable; tkrest; fin-answers; fin-marks; fin-disk; fin-slab; fin-nt; fin-pt; fin-rt; own-input; hcell; hobor; hobs; hauth; _40; _39; _38; _37; _36; _35; _34; _33; _32; _31; _30; _29; _28; _27; _26; _25; _24; _23; _22; _21; _20; _19; _18; _17; _16; _15; _14; _13; _12; _10; _9; _8; _7; _6; _5; _4; _3; _2; _1; _0]
+        calls-at ! fm (St 𝓤 H A at-mem run) known-store (to-store ys small 𝓤 H A W at-mem run κ₁ q₁ b₁ o₁ γ₁ l₁₁ (zs₂ .1 .1 .0) ν₃ ε₃) (and-then ! (load ! (from ! (stop !)) (look ! 19 refl)) (and-then ! (load ! (from ! (stop !)) (look ! 15 refl)) (no-more !))) (λ w₃.
+        use1 W (later (some (λ (v₃ : Unit {0}). ((‵ (flft κ₁ q₁) ⊛ ‵ (flft (ν₃ ∷ []) fullShare) ⊛ ‵ ftrue) ⊛ ‵ (unit .own v₃ (w₃ ∷ []))) ⊛ raw (ensured 𝓤 H A st.ended (st.clauses 𝓤 H A at-mem run) (κ₁, (ν₃ ∷ [], tt)) (x₁, (at-list l₁₁ ε₃ (zs₂ .1 .1 .0), tt)) tt v₃)))) (id⊢ 𝓤 _) $ await ! tt $
         pick ! (λ v₃.
         split ! $
         move ! (1 ∷ []) $
-        use1 W (some (λ (zs₃ : List Branch × (Unit {0} × Unit {0})). ‵ (lasts st.ended (κ₁, (ν₃ ∷ [], tt)) (x₁, (at-list l₉ ε₃ (zs₂ .1 .1 .0), tt)) zs₃) ⊛ raw (fact 𝓤 (zs₃ .0 ≡ take (length ys) (branchRowsOf (zs₂ .1 .1 .0)))))) (id⊢ 𝓤 _) $
+        use1 W (some (λ (zs₃ : List Branch × (Unit {0} × Unit {0})). ‵ (lasts st.ended (κ₁, (ν₃ ∷ [], tt)) (x₁, (at-list l₁₁ ε₃ (zs₂ .1 .1 .0), tt)) zs₃) ⊛ raw (fact 𝓤 (zs₃ .0 ≡ take (length ys) (branchRowsOf (zs₂ .1 .1 .0)))))) (id⊢ 𝓤 _) $
         pick ! (λ zs₃.
         split ! $
         move ! (1 ∷ []) $
@@ -622,7 +689,7 @@ module _ {M : Type 1} (𝓤 : URA M) (H : Heap 𝓤) (A : Atoms 𝓤) (W : Given
         move ! (1 ∷ []) $
         peeks ! unit (Is unit) (shows 𝓤 H A unit) v₃ (w₃ ∷ []) (λ is-unit₃.
         drop ! $
-        land ! (from ! (stop !)) (init ! 56 refl (nothing-lawful 𝓤 H A W .typed v₃ _ is-unit₃ .0)) $
+        land ! (from ! (stop !)) (init ! 66 refl (nothing-lawful 𝓤 H A W .typed v₃ _ is-unit₃ .0)) $
         split ! $
         move ! (1 ∷ []) $
         split ! $
@@ -632,23 +699,30 @@ module _ {M : Type 1} (𝓤 : URA M) (H : Heap 𝓤) (A : Atoms 𝓤) (W : Given
         move ! (0 ∷ 3 ∷ []) $
         lent-back ! tt $
         -- ---- the new head is stored, and its borrow is closed
-        assigns ! (of-opd ! (load ! (from ! (fld ! refl (stop !))) (look-in ! 62 (sub ! 0 refl (whole !))))) (from ! (hop ! (look ! 79 refl) (stop !))) (store-raw ! 10 refl (LL.lawful T.the-type T′.the-laws 𝓤 H A W .typed (r .head) _ (head-is r is) .0)) $
-        assigns ! (of-opd ! (load ! (from ! (fld ! refl (stop !))) (look-in ! 62 (sub ! 1 refl (whole !))))) (from ! (stop !)) (init ! 81 refl (LL.lawful Q.the-type Q′.the-laws 𝓤 H A W .typed (r .report) _ (field-is r is) .0)) $
+        assigns ! (of-opd ! (load ! (from ! (fld ! refl (stop !))) (look-in ! 72 (sub ! 0 refl (whole !))))) (from ! (hop ! (look ! 93 refl) (stop !))) (store-raw ! 12 refl (LL.lawful T.the-type T′.the-laws 𝓤 H A W .typed (r .head) _ (head-is r is) .0)) $
+        assigns ! (of-opd ! (load ! (from ! (fld ! refl (stop !))) (look-in ! 72 (sub ! 1 refl (whole !))))) (from ! (stop !)) (init ! 95 refl (LL.lawful Q.the-type Q′.the-laws 𝓤 H A W .typed (r .report) _ (field-is r is) .0)) $
         owned ! R (Is R) ((LL.makes T.the-type T′.the-plain) 𝓤 H A) (r .head) _ (head-is r is) $
-        move ! (11 ∷ 0 ∷ 12 ∷ 13 ∷ 14 ∷ []) $
+        move ! (13 ∷ 0 ∷ 14 ∷ 15 ∷ 16 ∷ []) $
         closes ! tt R (r .head) (T′.lowered (r .head) ∷ []) b₀ o₀ $
         move ! (3 ∷ []) $
-        use1 W (‵ (froom (tyArray (tyInt w32) N) l₉ 0)) (array-out 𝓤 H A W u32 N l₉ (uint-vals w32) (uint-tells w32) (zs₂ .1 .1 .0)) $
-        returns ! (look ! 80 refl) $
+        use1 W (‵ (froom (tyArray (tyInt w32) N) l₁₁ 0)) (array-out 𝓤 H A W u32 N l₁₁ (uint-vals w32) (uint-tells w32) (zs₂ .1 .1 .0)) $
+        returns ! (look ! 94 refl) $
+        forget ! 94 refl $
+        forget ! 92 refl $
+        forget ! 90 refl $
+        forget ! 88 refl $
+        forget ! 86 refl $
+        forget ! 84 refl $
+        forget ! 82 refl $
         forget ! 80 refl $
         forget ! 78 refl $
         forget ! 76 refl $
         forget ! 74 refl $
-        forget ! 72 refl $
-        forget ! 70 refl $
-        forget ! 68 refl $
-        forget ! 66 refl $
-        forget ! 64 refl $
+        forget ! 71 refl $
+        forget ! 69 refl $
+        forget ! 67 refl $
+        forget ! 65 refl $
+        forget ! 63 refl $
         forget ! 61 refl $
         forget ! 59 refl $
         forget ! 57 refl $
@@ -673,7 +747,20 @@ module _ {M : Type 1} (𝓤 : URA M) (H : Heap 𝓤) (A : Atoms 𝓤) (W : Given
         forget ! 19 refl $
         forget ! 17 refl $
         forget ! 15 refl $
-        forget ! 13 refl $
+        move ! (94 ∷ 95 ∷ []) $
+        free1 ! $
+        move ! (92 ∷ 93 ∷ []) $
+        free1 ! $
+        move ! (90 ∷ 91 ∷ []) $
+        free1 ! $
+        move ! (88 ∷ 89 ∷ []) $
+        free1 ! $
+        move ! (86 ∷ 87 ∷ []) $
+        free1 ! $
+        move ! (84 ∷ 85 ∷ []) $
+        free1 ! $
+        move ! (82 ∷ 83 ∷ []) $
+        free1 ! $
         move ! (80 ∷ 81 ∷ []) $
         free1 ! $
         move ! (78 ∷ 79 ∷ []) $
@@ -682,7 +769,7 @@ module _ {M : Type 1} (𝓤 : URA M) (H : Heap 𝓤) (A : Atoms 𝓤) (W : Given
         free1 ! $
         move ! (74 ∷ 75 ∷ []) $
         free1 ! $
-        move ! (72 ∷ 73 ∷ []) $
+        move ! (0 ∷ 73 ∷ []) $
         free1 ! $
         move ! (70 ∷ 71 ∷ []) $
         free1 ! $
@@ -692,7 +779,7 @@ module _ {M : Type 1} (𝓤 : URA M) (H : Heap 𝓤) (A : Atoms 𝓤) (W : Given
         free1 ! $
         move ! (64 ∷ 65 ∷ []) $
         free1 ! $
-        move ! (0 ∷ 63 ∷ []) $
+        move ! (62 ∷ 63 ∷ []) $
         free1 ! $
         move ! (60 ∷ 61 ∷ []) $
         free1 ! $
@@ -742,11 +829,9 @@ module _ {M : Type 1} (𝓤 : URA M) (H : Heap 𝓤) (A : Atoms 𝓤) (W : Given
         free1 ! $
         move ! (14 ∷ 15 ∷ []) $
         free1 ! $
-        move ! (12 ∷ 13 ∷ []) $
-        free1 ! $
         free0 ! $
-        keep ! (0 ∷ 1 ∷ 2 ∷ 3 ∷ 5 ∷ 4 ∷ 10 ∷ 9 ∷ 8 ∷ 7 ∷ 6 ∷ 11 ∷ []) $
-        by ! (exits (r .report) (r .head) (zs₃ .0) (zs₂ .1 .1 .1 .0) (zs₂ .1 .1 .1 .1 .0) (zs₂ .1 .1 .1 .1 .1 .0) (zs₂ .1 .1 .1 .1 .1 .1 .0) (zs₂ .1 .1 .1 .1 .1 .1 .1 .1 .0) (stored-said small r (zs₂ .1 .1 .0) (zs₃ .0) (zs₂ .1 .1 .1 .0) (zs₂ .1 .1 .1 .1 .0) (zs₂ .1 .1 .1 .1 .1 .0) (zs₂ .1 .1 .1 .1 .1 .1 .0) (zs₂ .1 .1 .1 .1 .1 .1 .1 .1 .0) did e-rows) (rw (full-rows ys small) at read) same-rows same-rt same-pt same-nt same-slab same-answers (field-is r is)))))))))))))))))))))))))))))))))))))))))))))))))))))))))))))))))))))))
+        keep ! (0 ∷ 1 ∷ 2 ∷ 3 ∷ 5 ∷ 4 ∷ 12 ∷ 11 ∷ 10 ∷ 9 ∷ 8 ∷ 7 ∷ 6 ∷ 13 ∷ []) $
+        by ! (exits (r .report) (r .head) (zs₃ .0) (zs₂ .1 .1 .1 .0) (zs₂ .1 .1 .1 .1 .0) (zs₂ .1 .1 .1 .1 .1 .0) (zs₂ .1 .1 .1 .1 .1 .1 .0) (zs₂ .1 .1 .1 .1 .1 .1 .1 .0) (zs₂ .1 .1 .1 .1 .1 .1 .1 .1 .0) (zs₂ .1 .1 .1 .1 .1 .1 .1 .1 .1 .1 .0) (stored-said small r (zs₂ .1 .1 .0) (zs₃ .0) (zs₂ .1 .1 .1 .0) (zs₂ .1 .1 .1 .1 .0) (zs₂ .1 .1 .1 .1 .1 .0) (zs₂ .1 .1 .1 .1 .1 .1 .0) (zs₂ .1 .1 .1 .1 .1 .1 .1 .0) (zs₂ .1 .1 .1 .1 .1 .1 .1 .1 .0) (zs₂ .1 .1 .1 .1 .1 .1 .1 .1 .1 .1 .0) did e-rows) (rw (full-rows ys small) at follows) (rw (full-rows ys small) at read) same-rows same-rt same-pt same-nt same-slab same-disk same-marks same-answers (field-is r is))))))))))))))))))))))))))))))))))))))))))))))))))))))))))))))))))))))))))))))))
 
     by-test : (t : Bool) → ltb 4096 (length ys) ≡ t → Goal
     by-test true e = many e
@@ -754,14 +839,14 @@ module _ {M : Type 1} (𝓤 : URA M) (H : Heap 𝓤) (A : Atoms 𝓤) (W : Given
 
 module _ {M : Type 1} (𝓤 : URA M) (H : Heap 𝓤) (A : Atoms 𝓤) (W : Given 𝓤 H A) (at-mem : Memory → SProp 𝓤) (run : Routine → Fun 𝓤) (𝓣 : Tables 𝓤 H) (known-load : Triple 𝓤 (𝓣 .C #lent·load-rows) (Ld 𝓤 H A at-mem run)) (known-core : Triple 𝓤 (𝓣 .C #lent·batch-rows) (Co 𝓤 H A at-mem run)) (known-store : Triple 𝓤 (𝓣 .C #lent·store-rows) (St 𝓤 H A at-mem run)) where
   f-walks : Walks 𝓤 H A f.ended stayed (WpFn 𝓤 H (𝓣 .C) (𝓣 .Λ) code.function) (f.clauses 𝓤 H A at-mem run)
-  f-walks = walked 𝓤 H A f.ended stayed (f.clauses 𝓤 H A at-mem run) (WpFn 𝓤 H (𝓣 .C) (𝓣 .Λ) code.function) (λ κs. (ptr-vals, (slice-vals, (slice-vals, (slice-vals, (slice-vals, (slice-vals, (slice-vals, (slice-vals, tt)))))))))
-      (λ κs. (mut-tells (named 0) (κs .0) T.the-row, (mut-slice-tells (named 1) (κs .1 .0) B.the-row, (mut-slice-tells (named 2) (κs .1 .1 .0) u32, (mut-slice-tells (named 3) (κs .1 .1 .1 .0) u32, (mut-slice-tells (named 4) (κs .1 .1 .1 .1 .0) u32, (mut-slice-tells (named 5) (κs .1 .1 .1 .1 .1 .0) u8, (shr-slice-tells (named 6) (κs .1 .1 .1 .1 .1 .1 .0) u8, (mut-slice-tells (named 7) (κs .1 .1 .1 .1 .1 .1 .1 .0) u8, tt)))))))))
+  f-walks = walked 𝓤 H A f.ended stayed (f.clauses 𝓤 H A at-mem run) (WpFn 𝓤 H (𝓣 .C) (𝓣 .Λ) code.function) (λ κs. (ptr-vals, (slice-vals, (slice-vals, (slice-vals, (slice-vals, (slice-vals, (slice-vals, (slice-vals, (slice-vals, (slice-vals, tt)))))))))))
+      (λ κs. (mut-tells (named 0) (κs .0) T.the-row, (mut-slice-tells (named 1) (κs .1 .0) B.the-row, (mut-slice-tells (named 2) (κs .1 .1 .0) u32, (mut-slice-tells (named 3) (κs .1 .1 .1 .0) u32, (mut-slice-tells (named 4) (κs .1 .1 .1 .1 .0) u32, (mut-slice-tells (named 5) (κs .1 .1 .1 .1 .1 .0) u8, (mut-slice-tells (named 6) (κs .1 .1 .1 .1 .1 .1 .0) u8, (mut-slice-tells (named 7) (κs .1 .1 .1 .1 .1 .1 .1 .0) u8, (shr-slice-tells (named 8) (κs .1 .1 .1 .1 .1 .1 .1 .1 .0) u8, (mut-slice-tells (named 9) (κs .1 .1 .1 .1 .1 .1 .1 .1 .1 .0) u8, tt)))))))))))
       (λ κs qs bounds a g are. via 𝓤 _ (fst∗ 𝓤 _ (emp 𝓤))
-      (by-test 𝓤 H A W at-mem run (κs .0) (κs .1 .0) (κs .1 .1 .0) (κs .1 .1 .1 .0) (κs .1 .1 .1 .1 .0) (κs .1 .1 .1 .1 .1 .0) (κs .1 .1 .1 .1 .1 .1 .0) (κs .1 .1 .1 .1 .1 .1 .1 .0) (qs .0) (qs .1 .0) (qs .1 .1 .0) (qs .1 .1 .1 .0) (qs .1 .1 .1 .1 .0) (qs .1 .1 .1 .1 .1 .0) (qs .1 .1 .1 .1 .1 .1 .0) (qs .1 .1 .1 .1 .1 .1 .1 .0) (a .0 .ptr .0) (a .0 .ptr .1) (a .0 .name) (a .0 .now) (a .1 .0 .ptr .0) (a .1 .0 .ptr .1) (a .1 .0 .name) (a .1 .0 .now) (a .1 .1 .0 .ptr .0) (a .1 .1 .0 .ptr .1) (a .1 .1 .0 .name) (a .1 .1 .0 .now) (a .1 .1 .1 .0 .ptr .0) (a .1 .1 .1 .0 .ptr .1) (a .1 .1 .1 .0 .name) (a .1 .1 .1 .0 .now) (a .1 .1 .1 .1 .0 .ptr .0) (a .1 .1 .1 .1 .0 .ptr .1) (a .1 .1 .1 .1 .0 .name) (a .1 .1 .1 .1 .0 .now) (a .1 .1 .1 .1 .1 .0 .ptr .0) (a .1 .1 .1 .1 .1 .0 .ptr .1) (a .1 .1 .1 .1 .1 .0 .name) (a .1 .1 .1 .1 .1 .0 .now) (a .1 .1 .1 .1 .1 .1 .0 .ptr .0) (a .1 .1 .1 .1 .1 .1 .0 .ptr .1) (a .1 .1 .1 .1 .1 .1 .0 .name) (a .1 .1 .1 .1 .1 .1 .0 .now) (a .1 .1 .1 .1 .1 .1 .1 .0 .ptr .0) (a .1 .1 .1 .1 .1 .1 .1 .0 .ptr .1) (a .1 .1 .1 .1 .1 .1 .1 .0 .name) (a .1 .1 .1 .1 .1 .1 .1 .0 .now) (are .1 .0 .0 .1) (are .1 .1 .0 .0 .1) (are .1 .1 .1 .0 .0 .1) (are .1 .1 .1 .1 .0 .0 .1) (are .1 .1 .1 .1 .1 .0 .0 .1) (are .1 .1 .1 .1 .1 .1 .0 .0 .1) (are .1 .1 .1 .1 .1 .1 .1 .0 .0 .1) (𝓣 .C) (𝓣 .Λ) (fmOf 𝓤 H (W .laws) 𝓣) known-load known-core known-store (ltb 4096 (length (a .1 .0 .now))) refl))
+      (by-test 𝓤 H A W at-mem run (κs .0) (κs .1 .0) (κs .1 .1 .0) (κs .1 .1 .1 .0) (κs .1 .1 .1 .1 .0) (κs .1 .1 .1 .1 .1 .0) (κs .1 .1 .1 .1 .1 .1 .0) (κs .1 .1 .1 .1 .1 .1 .1 .0) (κs .1 .1 .1 .1 .1 .1 .1 .1 .0) (κs .1 .1 .1 .1 .1 .1 .1 .1 .1 .0) (qs .0) (qs .1 .0) (qs .1 .1 .0) (qs .1 .1 .1 .0) (qs .1 .1 .1 .1 .0) (qs .1 .1 .1 .1 .1 .0) (qs .1 .1 .1 .1 .1 .1 .0) (qs .1 .1 .1 .1 .1 .1 .1 .0) (qs .1 .1 .1 .1 .1 .1 .1 .1 .0) (qs .1 .1 .1 .1 .1 .1 .1 .1 .1 .0) (a .0 .ptr .0) (a .0 .ptr .1) (a .0 .name) (a .0 .now) (a .1 .0 .ptr .0) (a .1 .0 .ptr .1) (a .1 .0 .name) (a .1 .0 .now) (a .1 .1 .0 .ptr .0) (a .1 .1 .0 .ptr .1) (a .1 .1 .0 .name) (a .1 .1 .0 .now) (a .1 .1 .1 .0 .ptr .0) (a .1 .1 .1 .0 .ptr .1) (a .1 .1 .1 .0 .name) (a .1 .1 .1 .0 .now) (a .1 .1 .1 .1 .0 .ptr .0) (a .1 .1 .1 .1 .0 .ptr .1) (a .1 .1 .1 .1 .0 .name) (a .1 .1 .1 .1 .0 .now) (a .1 .1 .1 .1 .1 .0 .ptr .0) (a .1 .1 .1 .1 .1 .0 .ptr .1) (a .1 .1 .1 .1 .1 .0 .name) (a .1 .1 .1 .1 .1 .0 .now) (a .1 .1 .1 .1 .1 .1 .0 .ptr .0) (a .1 .1 .1 .1 .1 .1 .0 .ptr .1) (a .1 .1 .1 .1 .1 .1 .0 .name) (a .1 .1 .1 .1 .1 .1 .0 .now) (a .1 .1 .1 .1 .1 .1 .1 .0 .ptr .0) (a .1 .1 .1 .1 .1 .1 .1 .0 .ptr .1) (a .1 .1 .1 .1 .1 .1 .1 .0 .name) (a .1 .1 .1 .1 .1 .1 .1 .0 .now) (a .1 .1 .1 .1 .1 .1 .1 .1 .0 .ptr .0) (a .1 .1 .1 .1 .1 .1 .1 .1 .0 .ptr .1) (a .1 .1 .1 .1 .1 .1 .1 .1 .0 .name) (a .1 .1 .1 .1 .1 .1 .1 .1 .0 .now) (a .1 .1 .1 .1 .1 .1 .1 .1 .1 .0 .ptr .0) (a .1 .1 .1 .1 .1 .1 .1 .1 .1 .0 .ptr .1) (a .1 .1 .1 .1 .1 .1 .1 .1 .1 .0 .name) (a .1 .1 .1 .1 .1 .1 .1 .1 .1 .0 .now) (are .1 .0 .0 .1) (are .1 .1 .0 .0 .1) (are .1 .1 .1 .0 .0 .1) (are .1 .1 .1 .1 .0 .0 .1) (are .1 .1 .1 .1 .1 .0 .0 .1) (are .1 .1 .1 .1 .1 .1 .0 .0 .1) (are .1 .1 .1 .1 .1 .1 .1 .0 .0 .1) (are .1 .1 .1 .1 .1 .1 .1 .1 .0 .0 .1) (are .1 .1 .1 .1 .1 .1 .1 .1 .1 .0 .0 .1) (𝓣 .C) (𝓣 .Λ) (fmOf 𝓤 H (W .laws) 𝓣) known-load known-core known-store (ltb 4096 (length (a .1 .0 .now))) refl))
 
   f-meets : Meets 𝓤 H A f.signature (WpFn 𝓤 H (𝓣 .C) (𝓣 .Λ) code.function) (f.spec 𝓤 H A at-mem run)
   f-meets =
-      walk-meets 𝓤 H A f.ended stayed W (goes-ref 𝓤 H A W 8 0 tt (plain (λ _. T.the-row)), (goes-gave-slice 𝓤 H A W 8 1 tt (plain (λ _. B.the-row)), (goes-gave-slice 𝓤 H A W 8 2 tt (plain (λ _. u32)), (goes-gave-slice 𝓤 H A W 8 3 tt (plain (λ _. u32)), (goes-gave-slice 𝓤 H A W 8 4 tt (plain (λ _. u32)), (goes-gave-slice 𝓤 H A W 8 5 tt (plain (λ _. u8)), (goes-none-slice 𝓤 H A W 8 (6 ∷ []) tt (plain (λ _. u8)) yes, (goes-gave-slice 𝓤 H A W 8 7 tt (plain (λ _. u8)), tt)))))))) (f.clauses 𝓤 H A at-mem run)
+      walk-meets 𝓤 H A f.ended stayed W (goes-ref 𝓤 H A W 10 0 tt (plain (λ _. T.the-row)), (goes-gave-slice 𝓤 H A W 10 1 tt (plain (λ _. B.the-row)), (goes-gave-slice 𝓤 H A W 10 2 tt (plain (λ _. u32)), (goes-gave-slice 𝓤 H A W 10 3 tt (plain (λ _. u32)), (goes-gave-slice 𝓤 H A W 10 4 tt (plain (λ _. u32)), (goes-gave-slice 𝓤 H A W 10 5 tt (plain (λ _. u8)), (goes-gave-slice 𝓤 H A W 10 6 tt (plain (λ _. u8)), (goes-gave-slice 𝓤 H A W 10 7 tt (plain (λ _. u8)), (goes-none-slice 𝓤 H A W 10 (8 ∷ []) tt (plain (λ _. u8)) yes, (goes-gave-slice 𝓤 H A W 10 9 tt (plain (λ _. u8)), tt)))))))))) (f.clauses 𝓤 H A at-mem run)
       (WpFn 𝓤 H (𝓣 .C) (𝓣 .Λ) code.function) (WpFn-mono 𝓤 H (W .laws) 𝓣 code.function) f-walks
 
 pub run-batch-spec : {M : Type 1} → stated.statement M

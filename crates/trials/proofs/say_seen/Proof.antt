@@ -8,7 +8,7 @@ abbrev Inv-loop : tie.InvT-loop
 Inv-loop w k₀ k = Unit {0}
 
 abbrev μ-loop : tie.MeasureT-loop
-μ-loop w k₀ k = 18 - k
+μ-loop w k₀ k = 19 - k
 
 loop-holds : tie.Need-loop-holds Inv-loop μ-loop
 loop-holds c = tt

@@ -5,37 +5,25 @@ use Rattle.trial_faults.proofs.faults.swap_pages.Statement.{statement}
 use Rattle.trial_faults.proofs.faults.swap_pages.Tie as tie
 
 abbrev Inv-loop : tie.InvT-loop
-Inv-loop b₀ p q i₀ b i = Unit {0}
+Inv-loop b₀ i j k₀ b k = Unit {0}
 
 abbrev μ-loop : tie.MeasureT-loop
-μ-loop b₀ p q i₀ b i = 256 - i
+μ-loop b₀ i j k₀ b k = 256 - k
 
 loop-holds : tie.Need-loop-holds Inv-loop μ-loop
 loop-holds c = tt
 
-mul-swap-byte : tie.Need-mul-swap-byte Inv-loop μ-loop
-mul-swap-byte c = omega arith
+plus-requires : tie.Need-plus-requires Inv-loop μ-loop
+plus-requires c κs = tt
 
-add-swap-byte : tie.Need-add-swap-byte Inv-loop μ-loop
-add-swap-byte c = omega arith
-
-add-swap-byte-2 : tie.Need-add-swap-byte-2 Inv-loop μ-loop
-add-swap-byte-2 c = omega arith
-
-mul-swap-byte-2 : tie.Need-mul-swap-byte-2 Inv-loop μ-loop
-mul-swap-byte-2 c = omega arith
-
-add-swap-byte-3 : tie.Need-add-swap-byte-3 Inv-loop μ-loop
-add-swap-byte-3 c = omega arith
-
-add-swap-byte-4 : tie.Need-add-swap-byte-4 Inv-loop μ-loop
-add-swap-byte-4 c = omega arith
+plus-requires-2 : tie.Need-plus-requires-2 Inv-loop μ-loop
+plus-requires-2 c κs = tt
 
 swap-byte-requires : tie.Need-swap-byte-requires Inv-loop μ-loop
 swap-byte-requires c κs = tt
 
-add-i : tie.Need-add-i Inv-loop μ-loop
-add-i c = omega arith
+add-k : tie.Need-add-k Inv-loop μ-loop
+add-k c = omega arith
 
 loop-less : tie.Need-loop-less Inv-loop μ-loop
 loop-less c = omega arith
@@ -53,14 +41,10 @@ swap-pages-spec =
     Inv-loop
     μ-loop
     loop-holds
-    mul-swap-byte
-    add-swap-byte
-    add-swap-byte-2
-    mul-swap-byte-2
-    add-swap-byte-3
-    add-swap-byte-4
+    plus-requires
+    plus-requires-2
     swap-byte-requires
-    add-i
+    add-k
     loop-less
     loop-again
     returns)

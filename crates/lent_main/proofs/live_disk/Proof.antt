@@ -1,0 +1,11 @@
+use mathlib.Core.Path.{refl}
+use Rattle.rows.specs.Rows.{zeros}
+use Rattle.lent_main.proofs.live_disk.Statement.{statement}
+use Rattle.lent_main.proofs.live_disk.Tie as tie
+
+returns : tie.Need-returns
+unfolding zeros
+returns c = refl
+
+pub live-disk-spec : {M : Type 1} → statement M
+live-disk-spec = tie.close (tie.spec returns)

@@ -1,0 +1,4 @@
+pub mod Stale
+pub mod Behind
+pub mod Keeping
+pub mod LiveDemand
