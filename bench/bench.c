@@ -142,7 +142,7 @@ static void make(struct made *s, enum shape shape, uint32_t n, uint32_t b)
     *s = (struct made){.n = n, .b = b, .shape = shape, .width = n / (rows - 2) + 4};
     s->now = rows * s->width - 1;
     s->middle = rows / 2 * s->width;
-    s->areas.branches = room(s->areas.branches_len = 12 * (size_t)b);
+    s->areas.branches = room(s->areas.branches_len = KIZMOOLET_BRANCH_BYTES * (size_t)b);
     s->areas.records = room(s->areas.records_len = 12 * (size_t)n);
     s->areas.places = room(s->areas.places_len = 4 * (size_t)n);
     s->areas.slab = room(s->areas.slab_len = PAGE * (size_t)n);
@@ -151,10 +151,8 @@ static void make(struct made *s, enum shape shape, uint32_t n, uint32_t b)
         put32(s->areas.head + 4 * i, head[i]);
     lend_disk(&s->areas);
     for (uint32_t k = 0; k < rows; k++) {
-        uint8_t *p = s->areas.branches + 12 * k;
-        put32(p, k * s->width);
-        put32(p + 4, k == rows - 1 ? OPEN_END : (k + 1) * s->width - 1);
-        put32(p + 8, shape == WEEKLY && k > 0 ? k * s->width - 2 : 0);
+        uint32_t end = k == rows - 1 ? OPEN_END : (k + 1) * s->width - 1, cut = shape == WEEKLY && k > 0 ? k * s->width - 2 : 0;
+        set_branch(&s->areas, k, (struct branch){k * s->width, end, cut, order_of(k)});
     }
     struct record *r = room(count * sizeof *r);
     uint32_t last = 0, index = 0;
@@ -287,7 +285,7 @@ static size_t make_batch(const struct made *s, enum operation op, int slow, uint
         p = put_request(p, READ, read_address(s, 1), s->now);
         break;
     case OP_REVERT:
-        p = put_request(p, REVERT, 0, s->now - 1);
+        p = put_request(p, REVERT, order_of(s->b), s->now - 1);
         for (uint32_t i = 0; i < AFTER; i++)
             p = put_request(p, READ, read_address(s, i), s->now + 1);
         break;

@@ -91,6 +91,7 @@ static void make(struct store *s, uint32_t pages, uint32_t branches, uint32_t re
         put_number(p, k * MOMENTS);
         put_number(p + 4, k == branches - 1 ? KIZMOOLET_LAST_MOMENT : (k + 1) * MOMENTS - 1);
         put_number(p + 8, k == 0 ? 0 : drawn(k * MOMENTS));
+        put_number(p + 12, k * 40503u % (KIZMOOLET_MOST_ORDER + 1));
     }
     uint32_t *place = room(records * sizeof *place);
     for (uint32_t i = 0; i < records; i++) {
@@ -127,7 +128,7 @@ enum call { COPY, CLEAR, HEAD_LENGTH, FLOOR, FIRST_BRANCH, FIRST_RECORD, LAST_RE
 
 static const char *const names[CALLS] = {
     "memcpy of head and tables",
-    "memset of 1,097,728 bytes, as many as the largest tables have",
+    "memset of 1,114,112 bytes, as many as the largest tables have",
     "refused with 1: a head that is a byte too short",
     "refused with 1: floor above now",
     "refused with 2: the first branch row",
@@ -256,6 +257,8 @@ static void time_call(struct store *s, size_t library, enum call call, int repet
         memcpy(before, s->head, sizeof s->head);
         memcpy(before + sizeof s->head, s->branches, tables);
     }
+    if (library > 0)
+        lend_earlier(s->branches, s->branches_len);
     if (repetition < 0) { /* a first run, to see how long it takes */
         double began = seconds();
         if (one_call(s, &libraries[library], call, batch, requests.length) != due[call])

@@ -58,7 +58,7 @@ static uint32_t below_floor(const struct areas *s)
 static void open_gaps(struct areas *s)
 {
     for (uint32_t k = 0; k + 1 < head_branches(s) && branch_at(s, k + 1).start <= head_floor(s); k++)
-        put32(s->branches + 12 * (size_t)k + 4, branch_at(s, k).end - 1);
+        put32(s->branches + KIZMOOLET_BRANCH_BYTES * (size_t)k + 4, branch_at(s, k).end - 1);
 }
 
 static void make_at(struct areas *s, enum shape shape, const uint32_t *size, enum level level)
@@ -97,8 +97,8 @@ static void time_call(struct row *row, enum call call, int repetitions)
     memcpy(head, found.head, sizeof head);
     put_wrong(&found, call);
     stop_due = dues[call];
-    time_batch(contenders[LIBRARY]);
-    if (!same_branches(&used, &found) || !same_others(&used, &found) || !same_disks(&used, &found))
+    time_batch(LIBRARY);
+    if (!same_branches(&used, &found, 0) || !same_others(&used, &found) || !same_disks(&used, &found))
         fail("a call without a request changes the store");
     keep_first();
     take_turns(CONTENDERS, repetitions);

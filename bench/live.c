@@ -26,8 +26,8 @@ _Noreturn void fail(const char *what)
 #define EARLIER_ONE (CONTENDERS - 1)
 
 #if defined BEFORE && defined BEFORE_DISK
-static live_function *const lives[CONTENDERS] = {kizmoolet_live_read, plain_live_read, before_live_read};
-static step_function *const steps[CONTENDERS] = {kizmoolet_copy_step, plain_copy_step, before_copy_step};
+static live_function *const lives[CONTENDERS] = {kizmoolet_live_read, plain_live_read, earlier_live_read};
+static step_function *const steps[CONTENDERS] = {kizmoolet_copy_step, plain_copy_step, earlier_copy_step};
 #else
 static live_function *const lives[CONTENDERS] = {kizmoolet_live_read, plain_live_read};
 static step_function *const steps[CONTENDERS] = {kizmoolet_copy_step, plain_copy_step};
@@ -50,6 +50,7 @@ struct history {
 };
 
 #define MOMENTS 16u         /* of a branch */
+#define ORDER 4711u         /* the work order of the reverts */
 #define NO_PLACE 0xFFFFFFFFu
 
 static uint32_t first_place[KIZMOOLET_MOST_PAGES]; /* of each address, the place of its page at the moment set back to */
@@ -102,17 +103,15 @@ static uint32_t target_of(const struct size *z, const struct history *h)
 static void make(struct areas *s, const struct size *z, const struct history *h)
 {
     uint32_t counted = counted_of(z, h), last = target_of(z, h);
-    *s = (struct areas){.branches_len = 12 * (size_t)z->branches, .records_len = 12 * (size_t)z->rows,
+    *s = (struct areas){.branches_len = KIZMOOLET_BRANCH_BYTES * (size_t)z->branches, .records_len = 12 * (size_t)z->rows,
         .places_len = 4 * (size_t)z->rows, .slab_len = PAGE * (size_t)z->rows};
     s->branches = room(s->branches_len);
     s->records = room(s->records_len);
     s->places = room(s->places_len);
     s->slab = room(s->slab_len);
     for (uint32_t k = 0; k < counted; k++) {
-        uint8_t *p = s->branches + 12 * (size_t)k;
-        put32(p, k * MOMENTS);
-        put32(p + 4, k == counted - 1 ? OPEN_END : (k + 1) * MOMENTS - 1);
-        put32(p + 8, k == 0 ? 0 : k * MOMENTS - 2);
+        uint32_t end = k == counted - 1 ? OPEN_END : (k + 1) * MOMENTS - 1;
+        set_branch(s, k, (struct branch){k * MOMENTS, end, k == 0 ? 0 : k * MOMENTS - 2, order_of(k)});
     }
     const uint32_t head[6] = {z->pages, counted, make_records(s, z, h, counted, last), last + MOMENTS - 1, 0, 0};
     for (int i = 0; i < 6; i++)
@@ -192,13 +191,13 @@ static int looking; /* whether what a revert leaves is looked at, which takes it
 static void restore(void)
 {
     memcpy(used.disk, found.disk, found.disk_len);
-    copy_tables(&used, &found);
+    restore_tables();
 }
 
 static void add_revert_and_reads(uint32_t reads)
 {
     struct kizmoolet_requests requests = kizmoolet_requests_in(batch, sizeof batch);
-    kizmoolet_add_revert(&requests, set_back_to);
+    kizmoolet_add_revert(&requests, set_back_to, QUOTED(ORDER));
     for (uint32_t i = 0; i < reads; i++)
         kizmoolet_add_read(&requests, i, head_now(&found) + 1);
     if (requests.failed)
@@ -288,16 +287,19 @@ static double set_back(int c)
         took += (seconds() - began) * count / SAMPLES;
         stale = one_step(c, pages / SAMPLES - budget, stale);
     }
+    if (is_earlier(c))
+        take_earlier(used.branches, used.branches_len);
     if (stale != 0)
         fail("steps leave a page stale");
     look_at_disk(used.disk, used.marks);
     return took;
 }
 
-/* A step with budget 0, which checks all and copies nothing. */
+/* A step with budget 0, which checks all and copies nothing, on the store that the last one to set it back left. */
 static double no_step(int c)
 {
     enum { RUNS = 8 };
+    lend_earlier(used.branches, used.branches_len);
     double began = seconds();
     for (int i = 0; i < RUNS; i++)
         one_step(c, 0, 0);
@@ -449,7 +451,7 @@ static uint32_t result_of(enum call call)
 static void set_up(enum call call)
 {
     struct kizmoolet_requests requests = kizmoolet_requests_in(batch, sizeof batch);
-    copy_tables(&used, &found);
+    restore_tables();
     if (call == FLOOR)
         put32(used.head + KIZMOOLET_HEAD_FLOOR_AT, OPEN_END);
     if (call == UNFIT)
@@ -614,7 +616,7 @@ static void make_batch(const struct size *z, enum kind kind)
         kizmoolet_add_write(&requests, z->pages - z->group + i, page);
     }
     if (kind == BACK)
-        kizmoolet_add_revert(&requests, target_of(z, &kind_histories[kind]));
+        kizmoolet_add_revert(&requests, target_of(z, &kind_histories[kind]), QUOTED(ORDER));
     if (requests.failed)
         fail("the batch is longer than its area");
     batch_len = requests.length;
@@ -657,7 +659,7 @@ static void time_kind(const struct size *z, enum kind kind, int repetitions)
 {
     make_stores(z, &kind_histories[kind]);
     make_batch(z, kind);
-    time_batch(contenders[LIBRARY]);
+    time_batch(LIBRARY);
     keep_first();
     if (!batch_due(kind))
         fail("a batch leaves another live disk than is due");

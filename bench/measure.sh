@@ -5,7 +5,8 @@
 # BEFORE_NAMES=1    it is of 0.3 or later. One of before has no names, and is called without them (before.h)
 # BEFORE_WEEKLY=1   it is of 0.4 or later. One of before keeps more branches in a reclaim
 # BEFORE_ROWS=1     it is of 0.5. It has no live disk, and is called without it
-# BEFORE_DISK=1     it is of 0.6 or later, and is called as it is
+# BEFORE_DISK=1     it is of 0.6. Like those before it has branch rows without work orders, and is lent such rows
+# BEFORE_ORDERS=1   it is of 0.7 or later, and is called as it is
 # SHIFT=BYTES       with BEFORE: where the code lies, a multiple of 16; see below
 #
 # Needs rt, gcc and, for BEFORE, objcopy and ld (Debian: gcc libc6-dev binutils).
@@ -33,11 +34,11 @@ placed() { # ARCHIVE NAME [WORDS OF OBJCOPY]
 archives=()
 if [ -n "${BEFORE:-}" ]; then
     renamed=()
-    for entry in fresh batch live_read copy_step; do renamed+=(--redefine-sym "kizmoolet_$entry=before_$entry"); done
+    for entry in fresh batch live_read copy_step work_orders; do renamed+=(--redefine-sym "kizmoolet_$entry=before_$entry"); done
     placed "$LIBRARY" now
     placed "$BEFORE" before "${renamed[@]}"
     archives+=(-DBEFORE)
-    for has in NAMES WEEKLY ROWS DISK; do
+    for has in NAMES WEEKLY ROWS DISK ORDERS; do
         given=BEFORE_$has
         [ -z "${!given:-}" ] || archives+=("-D$given")
     done

@@ -88,10 +88,9 @@ static void name_of(uint32_t k, uint8_t *to)
 static void make_tables(struct areas *s, const struct size *z)
 {
     for (uint32_t k = 0; k < z->branches; k++) {
-        uint8_t *p = s->branches + 12 * (size_t)k;
-        put32(p, k * MOMENTS);
-        put32(p + 4, k == z->branches - 1 ? OPEN_END : (k + 1) * MOMENTS - 1);
-        put32(p + 8, k == 0 ? 0 : k * MOMENTS - 1 - drawn(k < NEAR ? k * MOMENTS : NEAR * MOMENTS));
+        uint32_t end = k == z->branches - 1 ? OPEN_END : (k + 1) * MOMENTS - 1;
+        uint32_t cut = k == 0 ? 0 : k * MOMENTS - 1 - drawn(k < NEAR ? k * MOMENTS : NEAR * MOMENTS);
+        set_branch(s, k, (struct branch){k * MOMENTS, end, cut, order_of(k)});
     }
     for (uint32_t i = 0; i < z->rows; i++) {
         uint32_t place = i * 40503u % z->rows, span = moments_of(z) / PER_ADDRESS;
@@ -107,7 +106,7 @@ static void make_tables(struct areas *s, const struct size *z)
 static void make(struct areas *s, const struct work *w)
 {
     const struct size *z = w->size;
-    *s = (struct areas){.branches_len = 12 * (size_t)z->branches, .records_len = 12 * (size_t)z->rows,
+    *s = (struct areas){.branches_len = KIZMOOLET_BRANCH_BYTES * (size_t)z->branches, .records_len = 12 * (size_t)z->rows,
         .places_len = 4 * (size_t)z->rows, .slab_len = PAGE * (size_t)z->rows};
     s->branches = room(s->branches_len);
     s->records = room(s->records_len);
@@ -209,7 +208,7 @@ static int answers_due(const struct work *w)
    names and without, and below the floor as above it. */
 static void first_batch(const struct work *w)
 {
-    time_batch(contenders[LIBRARY]);
+    time_batch(LIBRARY);
     if (!answers_due(w) || head_names(&used) != w->names)
         fail(kinds[w->kind]);
     if (w->kind == READS && w->names == 0)

@@ -65,14 +65,18 @@ static int at_or_before(DBC *c, uint8_t *key, uint32_t key_size, uint8_t *data, 
     return 1;
 }
 
-static void put_branch(uint32_t start, uint32_t end, uint32_t parent, uint32_t cut)
+/* A row of the branch table: its end, the start of the branch that it was cut from, the cut, the work order. */
+#define ROW 16u
+
+static void put_branch(uint32_t start, uint32_t end, uint32_t parent, uint32_t cut, uint32_t order)
 {
-    uint8_t key[4], data[12];
+    uint8_t key[4], data[ROW];
     put32(key, start);
     put32(data, end);
     put32(data + 4, parent);
     put32(data + 8, cut);
-    put(branches, key, 4, data, 12);
+    put32(data + 12, order);
+    put(branches, key, 4, data, ROW);
 }
 
 static uint32_t start_of_holder(uint32_t moment, uint8_t *data)
@@ -81,7 +85,7 @@ static uint32_t start_of_holder(uint32_t moment, uint8_t *data)
     uint8_t key[4];
     put32(key, moment);
     ok(branches->cursor(branches, NULL, &c, 0));
-    if (!at_or_before(c, key, 4, data, 12))
+    if (!at_or_before(c, key, 4, data, ROW))
         fail("no branch holds the moment");
     ok(c->close(c));
     return get32(key);
@@ -96,8 +100,8 @@ static void load(const struct areas *s)
     now = head_now(s);
     for (size_t i = 0; i < head_branches(s); i++) {
         struct branch b = branch_at(s, i);
-        uint8_t data[12];
-        put_branch(b.start, b.end, i == 0 ? 0 : start_of_holder(b.cut, data), b.cut);
+        uint8_t data[ROW];
+        put_branch(b.start, b.end, i == 0 ? 0 : start_of_holder(b.cut, data), b.cut, b.order);
         current = b.start;
     }
     for (size_t i = 0; i < head_records(s); i++)
@@ -135,7 +139,7 @@ static void drop(void)
 
 static struct found lookup(DBC *c, uint32_t address, uint32_t moment, int keep)
 {
-    uint8_t row[12], key[8], place[4];
+    uint8_t row[ROW], key[8], place[4];
     uint32_t start = start_of_holder(moment, row);
     int searched = 0;
     for (;;) {
@@ -158,7 +162,7 @@ static struct found lookup(DBC *c, uint32_t address, uint32_t moment, int keep)
         moment = get32(row + 8);
         uint8_t number[4];
         put32(number, start);
-        DBT k = dbt(number, 4), d = dbt(row, 12);
+        DBT k = dbt(number, 4), d = dbt(row, ROW);
         ok(branches->get(branches, NULL, &k, &d, 0));
     }
 }
@@ -196,15 +200,15 @@ static void write_page(uint32_t address, const uint8_t *page)
     memcpy(slab + PAGE * get32(place), page, PAGE);
 }
 
-static void revert(uint32_t moment)
+static void revert(uint32_t moment, uint32_t order)
 {
-    uint8_t row[12], parent[12], key[4];
+    uint8_t row[ROW], parent[ROW], key[4];
     put32(key, current);
-    DBT k = dbt(key, 4), d = dbt(row, 12);
+    DBT k = dbt(key, 4), d = dbt(row, ROW);
     ok(branches->get(branches, NULL, &k, &d, 0));
-    put_branch(current, now, get32(row + 4), get32(row + 8));
+    put_branch(current, now, get32(row + 4), get32(row + 8), get32(row + 12));
     current = ++now;
-    put_branch(current, OPEN_END, start_of_holder(moment, parent), moment);
+    put_branch(current, OPEN_END, start_of_holder(moment, parent), moment, order);
 }
 
 static void free_place(uint8_t *place)
@@ -256,14 +260,14 @@ static uint32_t reclaim(uint32_t floor)
     static uint32_t addresses[65536], moments[65536];
     static uint8_t places[65536][4], kept[65536];
     DBC *c;
-    uint8_t key[8], data[12];
-    DBT k = dbt(key, 4), d = dbt(data, 12);
+    uint8_t key[8], data[ROW];
+    DBT k = dbt(key, 4), d = dbt(data, ROW);
     m.n = 0;
     m.floor = floor;
     ok(branches->cursor(branches, NULL, &c, 0));
     int code;
     while ((code = c->get(c, &k, &d, DB_NEXT)) == 0)
-        m.rows[m.n++] = (struct branch){get32(key), get32(data), get32(data + 8)};
+        m.rows[m.n++] = (struct branch){get32(key), get32(data), get32(data + 8), get32(data + 12)};
     if (code != DB_NOTFOUND)
         ok(code);
     ok(c->close(c));
@@ -301,7 +305,7 @@ static uint32_t reclaim(uint32_t floor)
             DBT o = dbt(key, 4);
             ok(branches->del(branches, NULL, &o, 0));
         } else if (m.cut[i] != m.rows[i].cut) {
-            put_branch(m.rows[i].start, m.rows[i].end, m.rows[row_holding(m.rows, i, m.cut[i])].start, m.cut[i]);
+            put_branch(m.rows[i].start, m.rows[i].end, m.rows[row_holding(m.rows, i, m.cut[i])].start, m.cut[i], m.rows[i].order);
         }
     return freed;
 }
@@ -324,7 +328,7 @@ static size_t run_with(const uint8_t *batch, size_t batch_len, uint8_t *answers,
             now++;
             break;
         case REVERT:
-            revert(q.moment);
+            revert(q.moment, q.address);
             break;
         case READ:
             number = q.moment;

@@ -103,7 +103,7 @@ static void make(struct areas *s, const struct work *w)
 {
     const struct size *z = w->size;
     uint32_t places = w->kind == REFUSED ? w->used : z->rows;
-    *s = (struct areas){.branches_len = 12 * (size_t)z->branches, .records_len = 12 * (size_t)z->rows,
+    *s = (struct areas){.branches_len = KIZMOOLET_BRANCH_BYTES * (size_t)z->branches, .records_len = 12 * (size_t)z->rows,
         .places_len = 4 * (size_t)places, .slab_len = PAGE * (size_t)places};
     s->branches = room(s->branches_len);
     s->records = room(s->records_len);
@@ -114,10 +114,8 @@ static void make(struct areas *s, const struct work *w)
         put32(s->head + 4 * i, head[i]);
     lend_disk(s);
     for (uint32_t k = 0; k < z->branches; k++) {
-        uint8_t *p = s->branches + 12 * (size_t)k;
-        put32(p, k * MOMENTS);
-        put32(p + 4, k == z->branches - 1 ? OPEN_END : (k + 1) * MOMENTS - 1);
-        put32(p + 8, k == 0 ? 0 : k * MOMENTS - 2);
+        uint32_t end = k == z->branches - 1 ? OPEN_END : (k + 1) * MOMENTS - 1;
+        set_branch(s, k, (struct branch){k * MOMENTS, end, k == 0 ? 0 : k * MOMENTS - 2, order_of(k)});
     }
     make_records(s, w);
     for (uint32_t i = 0; i < places; i++) {
@@ -328,7 +326,7 @@ static struct due first_batch(const struct work *w)
 {
     struct due d;
     struct kizmoolet_answer answer;
-    time_batch(contenders[LIBRARY]);
+    time_batch(LIBRARY);
     struct kizmoolet_answers from = kizmoolet_answers_in(answers, (size_t)answer_bytes);
     due_at_first(&d, &found);
     for (size_t at = 0; at < batch_len;) {

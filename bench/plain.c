@@ -14,14 +14,6 @@ static void set_record(struct areas *s, size_t i, struct record r)
     put32(p + 8, r.place);
 }
 
-static void set_branch(struct areas *s, size_t i, struct branch b)
-{
-    uint8_t *p = s->branches + 12 * i;
-    put32(p, b.start);
-    put32(p + 4, b.end);
-    put32(p + 8, b.cut);
-}
-
 /* Which counted row has this name; the count where none has. */
 static size_t row_called(const struct areas *s, struct name x)
 {
@@ -84,8 +76,8 @@ static int held_by_range(const struct stretches *t, uint32_t moment)
 /* Check 1. */
 static int in_range(const struct areas *s)
 {
-    size_t b = s->branches_len / 12, r = s->records_len / 12, p = s->places_len / 4;
-    if (s->branches_len % 12 || s->records_len % 12 || s->places_len % 4)
+    size_t b = s->branches_len / KIZMOOLET_BRANCH_BYTES, r = s->records_len / 12, p = s->places_len / 4;
+    if (s->branches_len % KIZMOOLET_BRANCH_BYTES || s->records_len % 12 || s->places_len % 4)
         return 0;
     if (b < 1 || b > 4096 || r < 1 || r > 65536 || p < 1 || p > 65536 || s->slab_len != PAGE * p)
         return 0;
@@ -98,14 +90,14 @@ static int branches_sound(const struct areas *s, struct stretches *t)
 {
     struct branch x = branch_at(s, 0);
     uint32_t floor = head_floor(s), n = head_branches(s), end = x.end;
-    if (x.start != 0 || x.cut != 0)
+    if (x.start != 0 || x.cut != 0 || x.order != 0)
         return 0;
     t->n = 1;
     t->start[0] = 0;
     t->end[0] = end;
     for (size_t i = 1; i < n; i++) {
         x = branch_at(s, i);
-        if (x.end < x.start || x.start <= end || !held(t, x.cut))
+        if (x.end < x.start || x.start <= end || x.order > KIZMOOLET_MOST_ORDER || !held(t, x.cut))
             return 0;
         if (x.start != end + 1) {
             if (x.start > floor)
@@ -176,7 +168,7 @@ static int disk_fits(const struct areas *s)
     return (any & ~MARKS_OF(3)) == 0;
 }
 
-/* The refusal of the table checks, 0 where there is none, and how many record rows they read. */
+/* The refusal of the table checks, 0 where there is none, and how many record rows they read; the live disk is none of theirs. */
 static unsigned check(const struct areas *s, uint64_t *rows)
 {
     struct stretches t;
@@ -188,9 +180,7 @@ static unsigned check(const struct areas *s, uint64_t *rows)
     number_ranges(&t);
     size_t kept = rows_kept(s, &t), n = head_records(s);
     *rows = kept < n ? kept + 1 : n;
-    if (kept < n || places_in_use(s) != n)
-        return 3;
-    return disk_fits(s) ? 0 : 18;
+    return kept < n || places_in_use(s) != n ? 3 : 0;
 }
 
 /* ---- the requests */
@@ -277,11 +267,14 @@ static unsigned write_page(struct areas *s, size_t *from, uint32_t address, cons
 /* Every page becomes stale; blank marks stay. */
 static void make_stale(struct areas *s)
 {
-    for (size_t i = 0; i < s->marks_len; i += 8) {
-        size_t n = s->marks_len - i;
-        uint64_t eight = eight_marks(s->marks + i, n) & MARKS_OF(KIZMOOLET_MARK_BLANK);
-        memcpy(s->marks + i, &eight, n < 8 ? n : 8);
+    uint8_t *marks = s->marks;
+    size_t i = 0, n = s->marks_len;
+    for (; i + 8 <= n; i += 8) {
+        uint64_t eight = eight_marks(marks + i, 8) & MARKS_OF(KIZMOOLET_MARK_BLANK);
+        memcpy(marks + i, &eight, 8);
     }
+    for (; i < n; i++)
+        marks[i] &= KIZMOOLET_MARK_BLANK;
 }
 
 /* The first stale page from an address on; how many pages there are, where none is. */
@@ -306,7 +299,7 @@ static int readable(const struct areas *s, uint32_t moment)
     return is;
 }
 
-static unsigned revert(struct areas *s, uint32_t moment)
+static unsigned revert(struct areas *s, uint32_t moment, uint32_t order)
 {
     uint32_t now = head_now(s);
     size_t n = head_branches(s);
@@ -316,10 +309,10 @@ static unsigned revert(struct areas *s, uint32_t moment)
         return 9;
     if (now == OPEN_END)
         return 10;
-    if (n >= s->branches_len / 12)
+    if (n >= s->branches_len / KIZMOOLET_BRANCH_BYTES)
         return 7;
-    put32(s->branches + 12 * (n - 1) + 4, now);
-    set_branch(s, n, (struct branch){now + 1, OPEN_END, moment});
+    put32(s->branches + KIZMOOLET_BRANCH_BYTES * (n - 1) + 4, now);
+    set_branch(s, n, (struct branch){now + 1, OPEN_END, moment, order});
     put32(s->head + 4, (uint32_t)n + 1);
     put32(s->head + 12, now + 1);
     make_stale(s);
@@ -362,8 +355,8 @@ static unsigned reclaim(struct areas *s, uint32_t floor, uint32_t *freed)
     w = 0;
     for (size_t i = 0; i < m.n; i++)
         if (m.kept[i])
-            set_branch(s, w++, (struct branch){m.rows[i].start, m.rows[i].end, m.cut[i]});
-    memset(s->branches + 12 * w, 0, 12 * (m.n - w));
+            set_branch(s, w++, (struct branch){m.rows[i].start, m.rows[i].end, m.cut[i], m.rows[i].order});
+    memset(s->branches + KIZMOOLET_BRANCH_BYTES * w, 0, KIZMOOLET_BRANCH_BYTES * (m.n - w));
     put32(s->head + 4, (uint32_t)w);
     put32(s->head + 16, floor);
     return 0;
@@ -409,7 +402,7 @@ static unsigned unreadable(const uint8_t *p, size_t left, struct request *q)
     if (q->operation < WRITE)
         return 12;
     uint32_t unused = q->spare;
-    if (q->operation != WRITE && q->operation != READ)
+    if (q->operation != WRITE && q->operation != READ && q->operation != REVERT)
         unused |= q->address;
     if (q->operation == WRITE || q->operation == MARK || q->operation == WITHDRAW)
         unused |= q->moment;
@@ -429,6 +422,55 @@ static unsigned take(struct areas *s, const uint8_t *head, size_t head_len, cons
     return check(s, rows);
 }
 
+/* The same, and whether the live disk fits. */
+static unsigned take_with_disk(struct areas *s, const uint8_t *head, size_t head_len, const uint8_t *names, size_t names_len,
+    uint64_t *rows)
+{
+    unsigned refusal = take(s, head, head_len, names, names_len, rows);
+    return refusal ? refusal : disk_fits(s) ? 0 : 18;
+}
+
+/* The work orders of the branch that holds the moment, of the one that holds its cut, and so on; how many they are. A cut lies in
+   an earlier row, so that one pass from the last row to the first meets them all. */
+static size_t orders_from(const struct areas *s, uint32_t moment, uint8_t *list)
+{
+    size_t count = 0;
+    for (size_t i = head_branches(s); i-- > 0;) {
+        struct branch b = branch_at(s, i);
+        if (moment < b.start || b.end < moment)
+            continue;
+        list[2 * count] = (uint8_t)(b.order >> 8);
+        list[2 * count++ + 1] = (uint8_t)b.order;
+        moment = b.cut;
+    }
+    return count;
+}
+
+uint32_t plain_work_orders(const uint8_t *head, size_t head_len, const uint8_t *branches, size_t branches_len,
+    const uint8_t *records, size_t records_len, const uint8_t *places, size_t places_len, const uint8_t *names, size_t names_len,
+    const uint8_t *slab, size_t slab_len, uint32_t moment, uint8_t *list, size_t list_len, uint64_t *count)
+{
+    /* the areas are not const in the struct, and are not written to */
+    struct areas s = {{0}, {0}, (uint8_t *)branches, (uint8_t *)records, (uint8_t *)places, (uint8_t *)slab, NULL, NULL,
+        branches_len, records_len, places_len, slab_len, 0, 0};
+    uint8_t all[KIZMOOLET_MOST_LIST_BYTES];
+    uint64_t rows;
+    *count = 0;
+    unsigned refusal = take(&s, head, head_len, names, names_len, &rows);
+    if (refusal)
+        return refusal;
+    if (!readable(&s, moment))
+        return 8;
+    if (moment > head_now(&s))
+        return 9;
+    size_t n = orders_from(&s, moment, all);
+    if (KIZMOOLET_ORDER_BYTES * n > list_len)
+        return 14;
+    memcpy(list, all, KIZMOOLET_ORDER_BYTES * n);
+    *count = n;
+    return 0;
+}
+
 uint32_t plain_live_read(const uint8_t *head, size_t head_len, const uint8_t *branches, size_t branches_len, const uint8_t *records,
     size_t records_len, const uint8_t *places, size_t places_len, const uint8_t *names, size_t names_len, const uint8_t *slab,
     size_t slab_len, const uint8_t *disk, size_t disk_len, const uint8_t *marks, size_t marks_len, uint32_t address, uint32_t *area,
@@ -440,7 +482,7 @@ uint32_t plain_live_read(const uint8_t *head, size_t head_len, const uint8_t *br
     uint64_t rows;
     *area = KIZMOOLET_AREA_NONE;
     *offset = 0;
-    unsigned refusal = take(&s, head, head_len, names, names_len, &rows);
+    unsigned refusal = take_with_disk(&s, head, head_len, names, names_len, &rows);
     if (refusal)
         return refusal;
     if (address >= head_size(&s))
@@ -469,7 +511,7 @@ uint32_t plain_copy_step(const uint8_t *head, size_t head_len, const uint8_t *br
         branches_len, records_len, places_len, slab_len, disk_len, marks_len};
     uint64_t rows, done = 0;
     *copied = 0;
-    unsigned refusal = take(&s, head, head_len, names, names_len, &rows);
+    unsigned refusal = take_with_disk(&s, head, head_len, names, names_len, &rows);
     if (refusal)
         return refusal;
     for (size_t at = 0; done < budget && (at = next_stale(&s, at)) < marks_len; done++, at++) {
@@ -491,7 +533,7 @@ uint32_t plain_batch(uint8_t *head, size_t head_len, uint8_t *branches, size_t b
     struct areas s = {{0}, {0}, branches, records, places, slab, disk, marks, branches_len, records_len, places_len, slab_len,
         disk_len, marks_len};
     *answered = *taken = *sent = 0;
-    unsigned stop = take(&s, head, head_len, names, names_len, rows);
+    unsigned stop = take_with_disk(&s, head, head_len, names, names_len, rows);
     if (stop)
         return stop;
     size_t at = 0, out = 0, from = 0; /* no place below `from` is free */
@@ -518,7 +560,7 @@ uint32_t plain_batch(uint8_t *head, size_t head_len, uint8_t *branches, size_t b
                 put32(s.head + 12, now + 1);
             break;
         case REVERT:
-            refusal = revert(&s, q.moment);
+            refusal = revert(&s, q.moment, q.address);
             break;
         case READ:
             number = q.moment;

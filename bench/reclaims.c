@@ -64,14 +64,14 @@ static uint8_t *joined(const struct areas *s, size_t *length)
 /* Whether contender c left what is due; `from` and `to` are where records begin and names end. */
 static int same_tables(int c, const uint8_t *left, const uint8_t *due, size_t from, size_t to)
 {
+    const size_t head = KIZMOOLET_HEAD_BYTES;
+    int same = memcmp(left, due, 4) == 0 && memcmp(left + 8, due + 8, head - 8) == 0
+        && memcmp(left + from, due + from, to - from) == 0;
 #if defined BEFORE && !defined BEFORE_WEEKLY
     if (c == EARLIER)
-        return memcmp(left, due, 4) == 0 && memcmp(left + 8, due + 8, KIZMOOLET_HEAD_BYTES - 8) == 0
-            && memcmp(left + from, due + from, to - from) == 0;
-#else
-    (void)c, (void)from;
+        return same;
 #endif
-    return memcmp(left, due, to) == 0;
+    return same && memcmp(left + 4, due + 4, 4) == 0 && same_rows(left + head, due + head, from - head, c > SLOW);
 }
 
 static void restore(struct areas *s, const uint8_t *p)
@@ -106,11 +106,14 @@ static void row(enum shape shape, uint32_t n, uint32_t b, int repetitions)
             uint64_t answered, taken, sent, rows;
             restore(&s, first);
             marks_by_groups = c == SLOW;
+            lend_earlier(s.branches, s.branches_len);
             double t = seconds();
             uint32_t stop = contenders[c](s.head, sizeof s.head, s.branches, s.branches_len, s.records, s.records_len, s.places,
                 s.places_len, s.names, sizeof s.names, s.slab, s.slab_len, s.disk, s.disk_len, s.marks, s.marks_len, batch, 7,
                 answers, sizeof answers, &answered, &taken, &sent, &rows);
             times[c * repetitions + r] = seconds() - t;
+            if (c > SLOW)
+                take_earlier(s.branches, s.branches_len);
             if (stop != 0 || answered != 1 || sent != sizeof answers || answers[0] != 0)
                 fail("a reclaim was not accepted");
             if (rows != get32(first + 8))

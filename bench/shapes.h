@@ -97,16 +97,15 @@ static void make(struct areas *s, enum shape shape, uint32_t n, uint32_t b)
 {
     uint32_t width = width_of(n, b);
     drawn_state = 20261;
-    *s = (struct areas){.branches_len = 12 * (size_t)b, .records_len = 12 * (size_t)n, .places_len = 4 * (size_t)n, .slab_len = PAGE * (size_t)n};
+    *s = (struct areas){.branches_len = KIZMOOLET_BRANCH_BYTES * (size_t)b, .records_len = 12 * (size_t)n,
+        .places_len = 4 * (size_t)n, .slab_len = PAGE * (size_t)n};
     s->branches = room(s->branches_len);
     s->records = room(s->records_len);
     s->places = room(s->places_len);
     s->slab = room(s->slab_len);
     for (uint32_t k = 0; k < b; k++) {
-        uint8_t *p = s->branches + 12 * k;
-        put32(p, k * width);
-        put32(p + 4, k == b - 1 ? OPEN_END : (k + 1) * width - 1);
-        put32(p + 8, cut_of(shape, k, width));
+        uint32_t end = k == b - 1 ? OPEN_END : (k + 1) * width - 1;
+        set_branch(s, k, (struct branch){k * width, end, cut_of(shape, k, width), order_of(k)});
     }
     const uint32_t head[6] = {65536, b, make_records(s, shape, n, b), b * width - 1, 0, 0};
     for (int i = 0; i < 6; i++)

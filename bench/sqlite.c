@@ -44,6 +44,7 @@ static void insert_branch(struct branch b)
     bind(put_branch, 1, b.start);
     bind(put_branch, 2, b.end);
     bind(put_branch, 3, b.cut);
+    bind(put_branch, 4, b.order);
     once(put_branch);
 }
 
@@ -77,7 +78,8 @@ static void load(const struct areas *s)
     if (sqlite3_open(":memory:", &db) != SQLITE_OK)
         fail("no database");
     ok(sqlite3_exec(db,
-        "create table branches (start integer primary key, last integer not null, cut integer not null);"
+        "create table branches (start integer primary key, last integer not null, cut integer not null,"
+        " work_order integer not null);"
         "create table records (address integer not null, moment integer not null, page blob not null);"
         "create unique index by_address on records (address, moment);"
         "create table names (name blob primary key, moment integer not null);",
@@ -87,12 +89,12 @@ static void load(const struct areas *s)
     holder = prepared("select start, cut from branches where start <= ?1 order by start desc limit 1");
     latest = prepared("select page, moment from records where address = ?1 and moment between ?2 and ?3 order by moment desc limit 1");
     put_record = prepared("insert into records values (?1, ?2, ?3) on conflict (address, moment) do update set page = excluded.page");
-    put_branch = prepared("insert into branches values (?1, ?2, ?3)");
+    put_branch = prepared("insert into branches values (?1, ?2, ?3, ?4)");
     close_branch = prepared("update branches set last = ?1 where start = (select max(start) from branches)");
     drop_record = prepared("delete from records where address = ?1 and moment = ?2");
     drop_branch = prepared("delete from branches where start = ?1");
     recut_branch = prepared("update branches set cut = ?2 where start = ?1");
-    all_branches = prepared("select start, last, cut from branches order by start");
+    all_branches = prepared("select start, last, cut, work_order from branches order by start");
     all_records = prepared("select address, moment from records order by address, moment");
     put_name = prepared("insert into names values (?1, ?2)");
     moment_named = prepared("select moment from names where name = ?1");
@@ -150,7 +152,8 @@ static uint32_t reclaim(uint32_t floor)
     m.n = 0;
     m.floor = floor;
     while (sqlite3_step(all_branches) == SQLITE_ROW)
-        m.rows[m.n++] = (struct branch){column(all_branches, 0), column(all_branches, 1), column(all_branches, 2)};
+        m.rows[m.n++] = (struct branch){column(all_branches, 0), column(all_branches, 1), column(all_branches, 2),
+            column(all_branches, 3)};
     ok(sqlite3_reset(all_branches));
     m.named_count = 0;
     while (sqlite3_step(all_names) == SQLITE_ROW)
@@ -205,7 +208,7 @@ static size_t run(const uint8_t *batch, size_t batch_len, uint8_t *answers, size
         case REVERT:
             bind(close_branch, 1, now);
             once(close_branch);
-            insert_branch((struct branch){++now, OPEN_END, q.moment});
+            insert_branch((struct branch){++now, OPEN_END, q.moment, q.address});
             break;
         case READ:
             number = q.moment;

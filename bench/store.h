@@ -24,7 +24,7 @@ static inline void put32(uint8_t *p, uint32_t x)
 }
 
 /* A row of the branch or record table as numbers. */
-struct branch { uint32_t start, end, cut; };
+struct branch { uint32_t start, end, cut, order; };
 struct record { uint32_t address, moment, place; };
 
 /* A name's eight bytes, as two numbers, and its moment. */
@@ -46,8 +46,23 @@ static inline uint32_t head_names(const struct areas *s) { return get32(s->head 
 
 static inline struct branch branch_at(const struct areas *s, size_t i)
 {
-    const uint8_t *p = s->branches + 12 * i;
-    return (struct branch){get32(p), get32(p + 4), get32(p + 8)};
+    const uint8_t *p = s->branches + KIZMOOLET_BRANCH_BYTES * i;
+    return (struct branch){get32(p), get32(p + 4), get32(p + 8), get32(p + 12)};
+}
+
+static inline void set_branch(struct areas *s, size_t i, struct branch b)
+{
+    uint8_t *p = s->branches + KIZMOOLET_BRANCH_BYTES * i;
+    put32(p, b.start);
+    put32(p + 4, b.end);
+    put32(p + 8, b.cut);
+    put32(p + 12, b.order);
+}
+
+/* The work order of branch row i in the stores that are made here: of each row another, 0 of the first. */
+static inline uint32_t order_of(uint32_t i)
+{
+    return i * 40503u % (KIZMOOLET_MOST_ORDER + 1);
 }
 
 static inline struct record record_at(const struct areas *s, size_t i)
@@ -115,7 +130,8 @@ struct contender {
 
 extern const struct contender library, plain, paper, paper_short, sqlite;
 
-/* The plain implementation under the signatures of kizmoolet_batch, kizmoolet_live_read and kizmoolet_copy_step. */
+/* The plain implementation under the signatures of kizmoolet_batch, kizmoolet_live_read, kizmoolet_copy_step and
+   kizmoolet_work_orders. */
 uint32_t plain_batch(uint8_t *head, size_t head_len, uint8_t *branches, size_t branches_len, uint8_t *records, size_t records_len,
     uint8_t *places, size_t places_len, uint8_t *names, size_t names_len, uint8_t *slab, size_t slab_len, uint8_t *disk,
     size_t disk_len, uint8_t *marks, size_t marks_len, const uint8_t *batch, size_t batch_len, uint8_t *answers, size_t answers_len,
@@ -127,6 +143,9 @@ uint32_t plain_live_read(const uint8_t *head, size_t head_len, const uint8_t *br
 uint32_t plain_copy_step(const uint8_t *head, size_t head_len, const uint8_t *branches, size_t branches_len, const uint8_t *records,
     size_t records_len, const uint8_t *places, size_t places_len, const uint8_t *names, size_t names_len, const uint8_t *slab,
     size_t slab_len, uint8_t *disk, size_t disk_len, uint8_t *marks, size_t marks_len, uint32_t budget, uint64_t *copied);
+uint32_t plain_work_orders(const uint8_t *head, size_t head_len, const uint8_t *branches, size_t branches_len,
+    const uint8_t *records, size_t records_len, const uint8_t *places, size_t places_len, const uint8_t *names, size_t names_len,
+    const uint8_t *slab, size_t slab_len, uint32_t moment, uint8_t *list, size_t list_len, uint64_t *count);
 
 /* Which records and branches a reclaim keeps; shared by the three that the library is compared with. */
 struct marking {

@@ -35,9 +35,21 @@ static void copy_tables(struct areas *to, const struct areas *from)
     memcpy(to->head, from->head, sizeof to->head);
 }
 
-static int same_branches(const struct areas *a, const struct areas *b)
+/* The store in use as it was found, for whoever is next, an earlier library too. */
+static void restore_tables(void)
 {
-    return memcmp(a->head + 4, b->head + 4, 4) == 0 && memcmp(a->branches, b->branches, a->branches_len) == 0;
+    copy_tables(&used, &found);
+    lend_earlier(used.branches, used.branches_len);
+}
+
+static int is_earlier(int c)
+{
+    return c > PLAIN;
+}
+
+static int same_branches(const struct areas *a, const struct areas *b, int with_earlier)
+{
+    return memcmp(a->head + 4, b->head + 4, 4) == 0 && same_rows(a->branches, b->branches, a->branches_len, with_earlier);
 }
 
 static int same_others(const struct areas *a, const struct areas *b)
@@ -77,20 +89,22 @@ static double seconds(void)
 }
 
 /* One batch on the store as it was found. */
-static double time_batch(batch_function *f)
+static double time_batch(int c)
 {
     uint64_t taken, rows;
 #ifndef SLAB_STAYS
     memcpy(used.slab, found.slab, found.slab_len);
     memcpy(used.disk, found.disk, found.disk_len);
 #endif
-    copy_tables(&used, &found);
+    restore_tables();
     memset(answers, 0xA5, answers_len);
     double began = seconds();
-    uint32_t stop = f(used.head, sizeof used.head, used.branches, used.branches_len, used.records, used.records_len, used.places,
-        used.places_len, used.names, sizeof used.names, used.slab, used.slab_len, used.disk, used.disk_len, used.marks,
+    uint32_t stop = contenders[c](used.head, sizeof used.head, used.branches, used.branches_len, used.records, used.records_len,
+        used.places, used.places_len, used.names, sizeof used.names, used.slab, used.slab_len, used.disk, used.disk_len, used.marks,
         used.marks_len, batch, batch_len, answers, answers_len, &answered, &taken, &answer_bytes, &rows);
     double took = seconds() - began;
+    if (is_earlier(c))
+        take_earlier(used.branches, used.branches_len);
     if (stop != stop_due || taken != (stop ? 0 : batch_len))
         fail("a batch does not end as is due");
     if (rows != (stop == 1 ? 0 : head_records(&found)))
@@ -135,7 +149,7 @@ static void compare(int c)
 {
     if (answered != answered_left || answer_bytes != answer_bytes_left || memcmp(answers, answers_left, answers_len) != 0)
         fail("two contenders give different answers");
-    if (!same_others(&used, &left) || (keeps_same(c) && !same_branches(&used, &left)))
+    if (!same_others(&used, &left) || (keeps_same(c) && !same_branches(&used, &left, is_earlier(c))))
         fail("two contenders leave different stores");
     if (has_disk(c) ? !same_disks(&used, &left) : !same_disks(&used, &found))
         fail("two contenders leave different live disks");
@@ -144,7 +158,7 @@ static void compare(int c)
 /* The first n contenders take turns; what is short is run several times a turn. */
 static void take_turns(int n, int repetitions)
 {
-    double once = time_batch(contenders[LIBRARY]);
+    double once = time_batch(LIBRARY);
     int runs = once < 5e-4 ? (int)(5e-4 / (once + 1e-6)) + 1 : 1;
     compare(LIBRARY);
     for (int r = 0; r < repetitions; r++)
@@ -152,7 +166,7 @@ static void take_turns(int n, int repetitions)
             int c = (turn + r) % n;
             times[c][r] = 0;
             for (int run = 0; run < runs; run++) {
-                times[c][r] += time_batch(contenders[c]) / runs;
+                times[c][r] += time_batch(c) / runs;
                 compare(c);
             }
         }

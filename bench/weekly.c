@@ -58,7 +58,8 @@ static double seconds(void)
 
 static void make(struct areas *s)
 {
-    *s = (struct areas){.branches_len = 12 * BRANCHES, .records_len = 12 * ROWS, .places_len = 4 * ROWS, .slab_len = PAGE * (size_t)ROWS};
+    *s = (struct areas){.branches_len = KIZMOOLET_BRANCH_BYTES * BRANCHES, .records_len = 12 * ROWS, .places_len = 4 * ROWS,
+        .slab_len = PAGE * (size_t)ROWS};
     s->branches = room(s->branches_len);
     s->records = room(s->records_len);
     s->places = room(s->places_len);
@@ -74,11 +75,14 @@ static unsigned send(int c, const struct kizmoolet_requests *requests, size_t co
 {
     struct areas *s = &all[c].store;
     uint64_t answered, taken, sent, rows, records = head_records(s);
+    lend_earlier(s->branches, s->branches_len);
     double began = seconds();
     uint32_t stop = batches[c](s->head, sizeof s->head, s->branches, s->branches_len, s->records, s->records_len, s->places,
         s->places_len, s->names, sizeof s->names, s->slab, s->slab_len, s->disk, s->disk_len, s->marks, s->marks_len, batch,
         requests->length, all[c].answers, sizeof all[c].answers, &answered, &taken, &sent, &rows);
     *took += seconds() - began;
+    if (c > PLAIN)
+        take_earlier(s->branches, s->branches_len);
     if (requests->failed || stop != 0 || answered != count || rows != records)
         fail("a batch was not carried out to its end, or not all record rows were read");
     for (size_t i = 0; i < count; i++) {
@@ -116,7 +120,7 @@ static void week(uint32_t w)
     kizmoolet_add_mark(&requests);
     memset(page, 0xEE, sizeof page);
     kizmoolet_add_write(&requests, (w + 7) % PAGES, page);
-    kizmoolet_add_revert(&requests, 2 * w);
+    kizmoolet_add_revert(&requests, 2 * w, QUOTED(order_of(w + 1)));
     for (int c = 0; c < CONTENDERS; c++)
         if (!all[c].full) {
             if (send(c, &requests, 4, &all[c].week_seconds) == 7)

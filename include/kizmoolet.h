@@ -5,7 +5,7 @@
  * present one, now, is open, and a write goes there. All memory is the caller's; a call keeps nothing from one to the next,
  * allocates nothing, opens nothing, and always returns.
  *
- * What the four functions do, for all lengths and all bytes, is proved: crates/kizmoolet in the repository. That holds for callers
+ * What the five functions do, for all lengths and all bytes, is proved: crates/kizmoolet in the repository. That holds for callers
  * who keep the duties below.
  *
  *
@@ -60,9 +60,9 @@
  *
  *   head      24 bytes: volume size A (1 to 65,536), branch count, record count, now, floor, name count (0 to 32). A batch
  *             brings it up to date. Moments from the floor to now can be read, and moments that have a name.
- *   branches  12 bytes a row, 1 to 4,096 rows: start, end, cut. Start and end are the first and last moment of the branch
- *             (the end of the open one is 4,294,967,295), the cut is the moment reverted to, or an earlier one, where a reclaim
- *             dropped the branch of that moment.
+ *   branches  16 bytes a row, 1 to 4,096 rows: start, end, cut, work order. Start and end are the first and last moment of the
+ *             branch (the end of the open one is 4,294,967,295), the cut is the moment reverted to, or an earlier one, where a
+ *             reclaim dropped the branch of that moment. The work order is that of the revert, at most 65,535; the first row has 0.
  *   records   12 bytes a row, 1 to 65,536 rows: address, moment, place. Ascending by address, then moment.
  *   places    4 bytes a row, 1 to 65,536 rows: 0 is free, k means that record row k - 1 (counted from 0) uses the place.
  *   names     384 bytes, 32 rows of 12: the 8 bytes of a name, then the moment that it stands for. In the order given.
@@ -105,10 +105,10 @@
  * Of the records those that a read from the new floor to now, or at a named moment, gives. Of the branches the first one, those
  * that end at the new floor or above, those that hold a named moment, and those that hold a record that stays. No other row is
  * counted right after an accepted reclaim. Where a branch goes, each branch whose cut lies in it takes over its cut, again and
- * again until that lies in a branch that stays. Starts and ends do not change, nor does any page that can be read. So a host
- * that reverts every week into the branch of the week before needs, besides the rows of the weeks since the floor, no more than
- * one for each record kept and for each name, and the first. A host whose revert is refused (7) reclaims, and reverts again, or
- * goes on with a copy over more rows. After a withdrawal, or in a store that a version before 0.4.0 has reclaimed, also a
+ * again until that lies in a branch that stays. Starts, ends and work orders do not change, nor does any page that can be read.
+ * So a host that reverts every week into the branch of the week before needs, besides the rows of the weeks since the floor, no
+ * more than one for each record kept and for each name, and the first. A host whose revert is refused (7) reclaims, and reverts
+ * again, or goes on with a copy over more rows. After a withdrawal, or in a store that a version before 0.4.0 has reclaimed, also a
  * reclaim to the floor as it is may drop branches; that gives up no moment.
  *
  *
@@ -134,6 +134,16 @@
  * kept for it is freed by the next reclaim. Later names close up, in their order, and the row that becomes free is zero.
  *
  *
+ * WORK ORDERS
+ *
+ * A revert carries a work order of 16 bits, which stands in the row of the branch that it begins; 0 where none is quoted.
+ * kizmoolet_work_orders lists, for a moment that can be read, the work orders from the branch of that moment up to and with the
+ * first row, nearest first: the branch of the moment, the branch that it was cut from, and so on. Two bytes each, high byte first;
+ * the last is the first row's 0. So right after a revert to m with work order w the list at now is w, and then the list of m as it
+ * was. Writes, marks, reads and names change no list. A branch that a reclaim drops is in no list from then on: what is left of the
+ * list of a moment that can be read are the work orders of the branches that stay, in their order.
+ *
+ *
  * REQUESTS, one behind the other in a batch
  *
  * Packed fields, most significant first: operation 3 bits, address 16, moment 32, spare 5; 7 bytes. Fields that an operation
@@ -141,8 +151,8 @@
  *
  *   1 write    address; the page's 256 bytes follow    puts the page at now                    answer: now
  *   2 mark                                             seals now, which grows by 1             answer: the sealed moment
- *   3 revert   moment                                  seals now; the volume is as at moment   answer: the sealed moment, which
- *                                                                                              is the one to name to undo it
+ *   3 revert   work order in place of the address,     seals now; the volume is as at moment   answer: the sealed moment, which
+ *              moment                                                                          is the one to name to undo it
  *   4 read     address, moment                         the page at that moment                 answer: the moment asked, and the
  *                                                                                              page with its date if there is one
  *   5 reclaim  moment                                  makes it the floor, frees what no read  answer: how many records it freed
@@ -162,7 +172,8 @@
  * The result of a call is 0 or the number of what refused or stopped it. Of a batch 4 to 10 and 15 to 17 are never the result: they
  * stand in a request's answer, and the batch goes on. A refused request alters nothing.
  *
- * Where several apply: 1, 2, 3, 18 in this order, then 4 of a live read; of a request 11 (fewer than 7 bytes), 12, 13, 11 (page or
+ * Where several apply: 1, 2, 3, 18 in this order, then 4 of a live read; of a list of work orders 1, 2, 3, then 8, 9, 14, and never
+ * 18, since it is not given the live disk; of a request 11 (fewer than 7 bytes), 12, 13, 11 (page or
  * name), then its own refusals (write 4, 5, 6; read 4, 8, 9; revert 8, 9, 10, 7; reclaim 8, 9; mark 10; name 8, 9, 15, 16; withdraw
  * 17), then 14.
  */
@@ -173,29 +184,29 @@
 #include <stdint.h>
 
 /* The version of this header and of the archive beside it; CHANGELOG.md says what changed. */
-#define KIZMOOLET_VERSION "0.6.0"
+#define KIZMOOLET_VERSION "0.7.0"
 #define KIZMOOLET_VERSION_MAJOR 0
-#define KIZMOOLET_VERSION_MINOR 6
+#define KIZMOOLET_VERSION_MINOR 7
 #define KIZMOOLET_VERSION_PATCH 0
 
 #define KIZMOOLET_OK 0u
 
-/* Result of kizmoolet_fresh (1) and of the other functions (1, 2, 3, 18): nothing is written but what is told through a pointer,
-   zero but for the record rows read (HOW FAR THE TABLE CHECK CAME). */
+/* Result of kizmoolet_fresh (1), of kizmoolet_work_orders (1, 2, 3) and of the other functions (1, 2, 3, 18): nothing is written but
+   what is told through a pointer, zero but for the record rows read (HOW FAR THE TABLE CHECK CAME). */
 #define KIZMOOLET_OUT_OF_RANGE 1u       /* head, counts or lengths outside their ranges, a table no whole number of rows, or
                                            floor above now */
 #define KIZMOOLET_BRANCHES_UNSOUND 2u   /* branch rows or names not sound */
 #define KIZMOOLET_RECORDS_UNSOUND 3u    /* records or places not sound; rows_read says which row */
 #define KIZMOOLET_DISK_UNFIT 18u        /* the live disk is not 256 x A bytes, its marks are not A in number, or one is above 3 */
 
-/* Refusal in an answer; the batch goes on. 4 is also the result of a live read. */
+/* Refusal in an answer; the batch goes on. 4 is also the result of a live read, 8 and 9 of a list of work orders. */
 #define KIZMOOLET_ADDRESS_TOO_HIGH 4u   /* write, read, live read: address at or above A */
 #define KIZMOOLET_RECORDS_FULL 5u       /* write: it needs a row, and the record table is full */
 #define KIZMOOLET_PLACES_FULL 6u        /* write: it needs a place, and none is free */
 #define KIZMOOLET_BRANCHES_FULL 7u      /* revert: the branch table is full (WHAT A RECLAIM LEAVES says what makes room) */
-#define KIZMOOLET_MOMENT_TOO_EARLY 8u   /* read, revert, name: moment below the floor, and it has no name; reclaim: moment below the
-                                           floor */
-#define KIZMOOLET_MOMENT_TOO_LATE 9u    /* read, reclaim: moment above now; revert, name: moment now or above */
+#define KIZMOOLET_MOMENT_TOO_EARLY 8u   /* read, revert, name, work orders: moment below the floor, and it has no name; reclaim:
+                                           moment below the floor */
+#define KIZMOOLET_MOMENT_TOO_LATE 9u    /* read, reclaim, work orders: moment above now; revert, name: moment now or above */
 #define KIZMOOLET_MOMENTS_USED_UP 10u   /* mark, revert: now is 4,294,967,295 */
 #define KIZMOOLET_NAME_IN_USE 15u       /* name: the name stands for a moment already, this one or another */
 #define KIZMOOLET_NAMES_FULL 16u        /* name: all 32 names are given */
@@ -206,7 +217,7 @@
 #define KIZMOOLET_NO_OPERATION 12u      /* operation 0 */
 #define KIZMOOLET_SPARE_BITS 13u        /* spare bits, or a field that the operation does not use, are not zero */
 #define KIZMOOLET_ANSWERS_FULL 14u      /* the answer that results, a refusal's 5 bytes too, is longer than what is left of the
-                                           answer area */
+                                           answer area; also the result of kizmoolet_work_orders: the list does not fit */
 
 /* The operations of requests. */
 #define KIZMOOLET_WRITE 1u
@@ -221,7 +232,7 @@
 #define KIZMOOLET_PAGE_BYTES 256u
 #define KIZMOOLET_NAME_BYTES 8u
 #define KIZMOOLET_HEAD_BYTES 24u
-#define KIZMOOLET_BRANCH_BYTES 12u
+#define KIZMOOLET_BRANCH_BYTES 16u
 #define KIZMOOLET_RECORD_BYTES 12u
 #define KIZMOOLET_PLACE_BYTES 4u
 #define KIZMOOLET_NAME_ROW_BYTES 12u
@@ -231,6 +242,11 @@
 #define KIZMOOLET_MOST_BRANCHES 4096u
 #define KIZMOOLET_MOST_RECORDS 65536u
 #define KIZMOOLET_MOST_PLACES 65536u
+
+/* The highest work order, the bytes of one in a list, and the bytes of the longest list: one of every branch. */
+#define KIZMOOLET_MOST_ORDER 65535u
+#define KIZMOOLET_ORDER_BYTES 2u
+#define KIZMOOLET_MOST_LIST_BYTES 8192u
 
 /* Marks of a page of the live disk: one of these, both together, or 0. */
 #define KIZMOOLET_MARK_CURRENT 1u
@@ -318,6 +334,19 @@ uint32_t kizmoolet_copy_step(const uint8_t *head, size_t head_len, const uint8_t
     const uint8_t *records, size_t records_len, const uint8_t *places, size_t places_len,
     const uint8_t *names, size_t names_len, const uint8_t *slab, size_t slab_len,
     uint8_t *disk, size_t disk_len, uint8_t *marks, size_t marks_len, uint32_t budget, uint64_t *copied);
+
+/*
+ * The work orders of a moment: checks the tables as a batch does, and lists the work orders from the branch of the moment up to
+ * and with the first row, nearest first, KIZMOOLET_ORDER_BYTES each, high byte first. Only the list is written, and what of it lies
+ * past the work orders is left as it was. kizmoolet_order_at reads one.
+ * Result: 0; 1, 2 or 3; 8 or 9, as of a read at that moment; or 14, where the list does not fit. Twice the branch count of the head
+ * is always enough.
+ * Always written, zero where the result is not 0: how many work orders are listed, at least 1. A refusal writes nothing else.
+ */
+uint32_t kizmoolet_work_orders(const uint8_t *head, size_t head_len, const uint8_t *branches, size_t branches_len,
+    const uint8_t *records, size_t records_len, const uint8_t *places, size_t places_len,
+    const uint8_t *names, size_t names_len, const uint8_t *slab, size_t slab_len,
+    uint32_t moment, uint8_t *list, size_t list_len, uint64_t *count);
 
 /* The page that a live read told of: its first byte, or a null pointer where there is none. */
 static inline const uint8_t *kizmoolet_live_page(uint32_t area, uint64_t offset, const uint8_t *disk, const uint8_t *slab)

@@ -1,5 +1,6 @@
 /*
- * Requests packed and answers unpacked, what head, places and names tell, and the marks of a live disk, for hosts of kizmoolet.h.
+ * Requests packed and answers unpacked, what head, places, names and lists of work orders tell, and the marks of a live disk, for
+ * hosts of kizmoolet.h.
  * All functions are inline: there is nothing to link.
  *
  *     struct kizmoolet_requests requests = kizmoolet_requests_in(batch, sizeof batch);
@@ -90,6 +91,22 @@ static inline uint32_t kizmoolet_named_moment(const uint8_t *names, uint32_t row
     return kizmoolet_number_at(names + row * KIZMOOLET_NAME_ROW_BYTES + KIZMOOLET_NAME_BYTES);
 }
 
+/* The work order i, counted from 0, of a list that kizmoolet_work_orders made. */
+static inline uint32_t kizmoolet_order_at(const uint8_t *list, size_t i)
+{
+    return (uint32_t)list[i * KIZMOOLET_ORDER_BYTES] << 8 | (uint32_t)list[i * KIZMOOLET_ORDER_BYTES + 1];
+}
+
+/* Branch rows of a version before 0.7.0, 12 bytes each, as rows of 16 with work order 0. Nothing else of such a store changes. The
+   two areas do not overlap. */
+static inline void kizmoolet_widen_branches(const uint8_t *old, size_t rows, uint8_t *branches)
+{
+    size_t row, i;
+    for (row = 0; row < rows; row++)
+        for (i = 0; i < KIZMOOLET_BRANCH_BYTES; i++)
+            branches[row * KIZMOOLET_BRANCH_BYTES + i] = i < 12 ? old[row * 12 + i] : 0;
+}
+
 /*
  * Up to which byte the slab is in use: 256 times the number of the last place in use, plus 256; 0 where none is. A copy of the
  * store needs no byte of the slab from there on. It looks at the place table from its end, and only at whole rows.
@@ -144,7 +161,8 @@ static inline uint8_t *kizmoolet_add_room(struct kizmoolet_requests *to, size_t 
     return at;
 }
 
-/* The seven bytes of a request. A field that the operation does not use is to be given as 0, else the batch stops there with 13. */
+/* The seven bytes of a request; of a revert the address is the work order. A field that the operation does not use is to be given
+   as 0, else the batch stops there with 13. */
 static inline void kizmoolet_pack(uint8_t *to, uint32_t operation, uint16_t address, uint32_t moment)
 {
     to[0] = (uint8_t)((operation & 7u) << 5 | (uint32_t)address >> 11);
@@ -157,8 +175,9 @@ static inline void kizmoolet_pack(uint8_t *to, uint32_t operation, uint16_t addr
 }
 
 /*
- * Each adds one request. Result: 1; or 0, and nothing is written, where the area is too short, where an address is above 65,535
- * and has no place in a request, or where a request before could not be added. So one look at `failed` after the last is enough.
+ * Each adds one request. Result: 1; or 0, and nothing is written, where the area is too short, where an address or a work order is
+ * above 65,535 and has no place in a request, or where a request before could not be added. So one look at `failed` after the last
+ * is enough.
  */
 static inline int kizmoolet_add_write(struct kizmoolet_requests *to, uint32_t address, const uint8_t *page)
 {
@@ -184,12 +203,16 @@ static inline int kizmoolet_add_mark(struct kizmoolet_requests *to)
     return 1;
 }
 
-static inline int kizmoolet_add_revert(struct kizmoolet_requests *to, uint32_t moment)
+/* The work order that the crew quotes, 0 where there is none; one above 65,535 has no place in a request. */
+static inline int kizmoolet_add_revert(struct kizmoolet_requests *to, uint32_t moment, uint32_t order)
 {
-    uint8_t *at = kizmoolet_add_room(to, KIZMOOLET_REQUEST_BYTES);
+    uint8_t *at;
+    if (order > KIZMOOLET_MOST_ORDER)
+        to->failed = 1;
+    at = kizmoolet_add_room(to, KIZMOOLET_REQUEST_BYTES);
     if (at == NULL)
         return 0;
-    kizmoolet_pack(at, KIZMOOLET_REVERT, 0, moment);
+    kizmoolet_pack(at, KIZMOOLET_REVERT, (uint16_t)order, moment);
     return 1;
 }
 

@@ -16,13 +16,19 @@
                                                    and how many are stale still, goes to standard error
      host disk IMAGE OUT                           the live disk as it is, in the new file OUT; how many of its pages are
                                                    stale, and how many current ones are blank, goes to standard error
+     host revert [OPTIONS] [--order N] IMAGE MOMENT
+                                                   as run with a batch of one revert, which has the work order N, 0 to
+                                                   65,535, or 0 where none is given
+     host orders IMAGE MOMENT [LIST_BYTES]         the work orders of a moment, from its branch up to and with the first row,
+                                                   nearest first, go to standard output, two bytes each, high byte first;
+                                                   how many there are goes to standard error
 
-   Options of run:
+   Options of run and revert:
      --stop-at-refusal   the requests after the first refused one are not carried out, and not answered
      --all-or-nothing    where a request is refused or the batch stops, the image stays as it was
      --copy NAME         before the image is replaced, it is copied to NAME, in its own folder
 
-   The image file: 28 bytes of header (the letters KZIMAGE3; branch rows, record rows and place rows, four bytes
+   The image file: 28 bytes of header (the letters KZIMAGE4; branch rows, record rows and place rows, four bytes
    each; CRC-32 of all other bytes of the file, four bytes; how many pages of the live disk the file has, four bytes),
    then head, branch table, record table, place table, name table, marks, live disk and page slab, just as the library
    takes them. All numbers are most significant byte first. Marks and live disk are in the file for every address, or for
@@ -30,10 +36,11 @@
    one in use on: what the file leaves out is zero in memory. A copy leaves out all that it can; an image that is replaced
    is written whole.
 
-   An image of before 0.6.0 begins with KZIMAGE2 and has neither the number of disk pages nor marks and disk; one of before
-   0.3.0 begins with KZIMAGE1, and has besides a head of 20 bytes and no name table. They are opened as stores with every
-   page of the live disk stale, and without names; what only reads leaves them as they are, and the first change writes
-   them in the form above.
+   An image of before 0.7.0 begins with KZIMAGE3, and its branch rows have 12 bytes, without a work order; one of before
+   0.6.0 begins with KZIMAGE2, and has besides neither the number of disk pages nor marks and disk; one of before 0.3.0
+   begins with KZIMAGE1, and has besides a head of 20 bytes and no name table. They are opened as stores in which every
+   branch has work order 0, with every page of the live disk stale where they have none, and without names; what only reads
+   leaves them as they are, and the first change writes them in the form above.
 
    A step is a change like any other: a cut of power during or between steps leaves disk and marks as one of the steps
    left them, and the next one goes on from there.
@@ -79,12 +86,14 @@ enum {
     HEADER = 28,
     CHECKSUM_AT = 20,
     DISK_AT = 24, /* how many pages of the live disk the file has */
-    FORM = 3,     /* the last of the letters that an image begins with */
+    FORM = 4,     /* the last of the letters that an image begins with */
     HEAD = KIZMOOLET_HEAD_BYTES,
+    BRANCH = KIZMOOLET_BRANCH_BYTES,
     PAGE = KIZMOOLET_PAGE_BYTES,
     LIVE = 1 + PAGE, /* a page of the live disk and its mark */
     OLD_HEADER = 24, /* of before 0.6.0: without the number of disk pages */
     OLD_HEAD = 20,   /* of before 0.3.0: without the number of names */
+    OLD_BRANCH = 12, /* of before 0.7.0: without the work order */
     NAMES = KIZMOOLET_NAMES_BYTES,
     WRITE = KIZMOOLET_WRITE, /* operations */
     READ = KIZMOOLET_READ,
@@ -183,13 +192,13 @@ static uint32_t crc32_on(uint32_t before, const uint8_t *bytes, size_t length) {
 }
 
 static size_t image_length(uint32_t branches, uint32_t records, uint32_t places, uint32_t disk_pages) {
-    return (size_t)HEADER + HEAD + 12 * (size_t)branches + 12 * (size_t)records + (4 + PAGE) * (size_t)places + NAMES +
+    return (size_t)HEADER + HEAD + BRANCH * (size_t)branches + 12 * (size_t)records + (4 + PAGE) * (size_t)places + NAMES +
         LIVE * (size_t)disk_pages;
 }
 
 /* Where the parts stand, by the numbers of rows in the header and the pages of the live disk. */
 static void lay_out(struct image *image, uint32_t disk_pages) {
-    image->branches_len = 12 * (size_t)number_at(image->bytes + 8);
+    image->branches_len = BRANCH * (size_t)number_at(image->bytes + 8);
     image->records_len = 12 * (size_t)number_at(image->bytes + 12);
     image->places_len = 4 * (size_t)number_at(image->bytes + 16);
     image->marks_len = disk_pages;
@@ -329,7 +338,8 @@ static int write_all(int file, const uint8_t *bytes, size_t length) {
     return 0;
 }
 
-/* The last of the letters that an image begins with: 3, 2 of before 0.6.0, 1 of before 0.3.0; 0 where it is none. */
+/* The last of the letters that an image begins with: 4, 3 of before 0.7.0, 2 of before 0.6.0, 1 of before 0.3.0; 0 where it is
+   none. */
 static int form_of(const uint8_t *header) {
     int form = header[7] - '0';
     return memcmp(header, magic, 7) == 0 && form >= 1 && form <= FORM ? form : 0;
@@ -354,10 +364,22 @@ static size_t whole_length(const uint8_t *header, size_t have, int form) {
     uint32_t places = number_at(header + 16), in_file = number_at(header + DISK_AT);
     size_t whole = image_length(number_at(header + 8), number_at(header + 12), places, in_file);
     have += form < 2 ? HEAD - OLD_HEAD + NAMES : 0;
+    have += form < 4 ? (BRANCH - OLD_BRANCH) * (size_t)number_at(header + 8) : 0;
     if (whole > image_length(BRANCHES_MOST, ROWS_MOST, ROWS_MOST, ROWS_MOST) || have > whole ||
         whole - have > PAGE * (size_t)places || (whole - have) % PAGE != 0)
         return 0;
     return whole + LIVE * (size_t)(disk_pages(header) - in_file);
+}
+
+/* Branch rows of before 0.7.0 get a work order, 0; what lies behind them moves up. How many bytes there are then. */
+static size_t widen(struct image *image, size_t have) {
+    size_t rows = image->branches_len / BRANCH, end = (size_t)(image->branches - image->bytes) + OLD_BRANCH * rows;
+    uint8_t *old = room(OLD_BRANCH * rows);
+    memcpy(old, image->branches, OLD_BRANCH * rows);
+    have = put_in(image->bytes, have, end, (BRANCH - OLD_BRANCH) * rows);
+    kizmoolet_widen_branches(old, rows, image->branches);
+    free(old);
+    return have;
 }
 
 /* What a file leaves out, of which there are so many bytes, is put in as zeros. There is room for the whole image. */
@@ -365,10 +387,12 @@ static void bring_up(struct image *image, size_t have, int form) {
     uint8_t *bytes = image->bytes;
     uint32_t in_file = number_at(bytes + DISK_AT);
     lay_out(image, disk_pages(bytes));
-    if (form < 2) {
+    if (form < 2)
         have = put_in(bytes, have, HEADER + OLD_HEAD, HEAD - OLD_HEAD);
+    if (form < 4)
+        have = widen(image, have);
+    if (form < 2)
         have = put_in(bytes, have, (size_t)(image->names - bytes), NAMES);
-    }
     if (in_file == 0)
         have = put_in(bytes, have, (size_t)(image->marks - bytes), LIVE * image->marks_len);
     memset(bytes + have, 0, image->length - have);
@@ -388,7 +412,7 @@ static struct image load(const struct place *place, int file, const struct stat 
         fail(1, "%s changed its length while it was read", place->name);
     uint32_t crc = crc32_on(crc32_on(0, image.bytes, CHECKSUM_AT), image.bytes + CHECKSUM_AT + 4, have - CHECKSUM_AT - 4);
     int form = form_of(image.bytes);
-    if (form < FORM)
+    if (form < 3)
         have = put_in(image.bytes, have, DISK_AT, HEADER - OLD_HEADER);
     image.length = form ? whole_length(image.bytes, have, form) : 0;
     if (image.length == 0)
@@ -665,9 +689,8 @@ static const char *several(uint64_t count) { return count == 1 ? "" : "s"; }
 
 static uint32_t branch_count(const struct image *image) { return number_at(image->head + KIZMOOLET_HEAD_BRANCHES_AT); }
 
-static int run(const char *path, const char *limit, const struct options *options) {
-    size_t batch_len, first_end = 0;
-    uint8_t *batch = read_batch(&batch_len);
+static int run(const char *path, const char *limit, const struct options *options, const uint8_t *batch, size_t batch_len) {
+    size_t first_end = 0;
     size_t answers_len = longest_answers(batch, batch_len);
     if (limit)
         answers_len = number_in(limit, "the length of the answer area", UINT32_MAX);
@@ -715,6 +738,15 @@ static int run(const char *path, const char *limit, const struct options *option
             (unsigned long)branch_count(&image));
     fputc('\n', stderr);
     return undone ? 6 : done.stop ? 3 : refused ? 5 : 0;
+}
+
+/* One revert, with the work order that is quoted. */
+static int revert(const char *path, const char *moment, const char *order, const struct options *options) {
+    uint8_t batch[KIZMOOLET_REQUEST_BYTES];
+    struct kizmoolet_requests requests = kizmoolet_requests_in(batch, sizeof batch);
+    uint32_t quoted = order ? number_in(order, "the work order", KIZMOOLET_MOST_ORDER) : 0;
+    kizmoolet_add_revert(&requests, number_in(moment, "the moment", UINT32_MAX), quoted);
+    return run(path, NULL, options, batch, requests.length);
 }
 
 static const char *const table_rows[3] = {"branch rows", "record rows", "places"};
@@ -865,6 +897,37 @@ static int disk(const char *path, const char *to) {
     return 0;
 }
 
+/* The work orders of a moment, as the library lists them. The live disk is not looked at, and nothing is changed. */
+static int orders(const char *path, const char *word, const char *limit) {
+    uint32_t moment = number_in(word, "the moment", UINT32_MAX);
+    uint64_t count;
+    struct place place = find_place(path);
+    struct stat found;
+    int file = open_locked(&place, &found);
+    struct image image = load(&place, file, &found);
+    /* twice the branch count is always enough, and no count that is taken is above the rows lent */
+    size_t list_len = image.branches_len / BRANCH * KIZMOOLET_ORDER_BYTES;
+    if (limit)
+        list_len = number_in(limit, "the length of the list", UINT32_MAX);
+    uint8_t *list = room(list_len);
+    uint32_t refusal = kizmoolet_work_orders(STORE(&image), moment, list, list_len, &count);
+    if (refusal == KIZMOOLET_MOMENT_TOO_EARLY)
+        fprintf(stderr, "refusal 8: the moment is below the floor, %lu, and has no name\n",
+            (unsigned long)kizmoolet_floor(image.head));
+    else if (refusal == KIZMOOLET_MOMENT_TOO_LATE)
+        fprintf(stderr, "refusal 9: the moment is above now, %lu\n", (unsigned long)kizmoolet_now(image.head));
+    else if (refusal == KIZMOOLET_ANSWERS_FULL)
+        fprintf(stderr, "refusal 14: the list does not fit in %zu byte%s\n", list_len, several(list_len));
+    else if (refusal)
+        return untaken(&image);
+    if (refusal)
+        return 5;
+    if (write_all(1, list, (size_t)count * KIZMOOLET_ORDER_BYTES) != 0)
+        fail(1, "the work orders could not be written: %s", strerror(errno));
+    fprintf(stderr, "%llu work order%s\n", (unsigned long long)count, several(count));
+    return 0;
+}
+
 static int usage(void) {
     fputs("usage: host new IMAGE SIZE BRANCHES RECORDS PLACES\n"
           "       host run [--stop-at-refusal | --all-or-nothing] [--copy NAME] IMAGE [ANSWER_BYTES] < batch > answers\n"
@@ -872,7 +935,9 @@ static int usage(void) {
           "       host copy IMAGE TO [BRANCHES RECORDS PLACES]\n"
           "       host live IMAGE ADDRESS > page\n"
           "       host step IMAGE N\n"
-          "       host disk IMAGE OUT\n",
+          "       host disk IMAGE OUT\n"
+          "       host revert [--all-or-nothing] [--copy NAME] [--order N] IMAGE MOMENT > answers\n"
+          "       host orders IMAGE MOMENT [LIST_BYTES] > orders\n",
         stderr);
     return 2;
 }
@@ -894,9 +959,13 @@ int main(int count, char **words) {
         return step(words[2], words[3]);
     if (count == 4 && strcmp(words[1], "disk") == 0)
         return disk(words[2], words[3]);
-    if (count < 3 || strcmp(words[1], "run") != 0)
+    if ((count == 4 || count == 5) && strcmp(words[1], "orders") == 0)
+        return orders(words[2], words[3], count == 5 ? words[4] : NULL);
+    int reverting = count > 2 && strcmp(words[1], "revert") == 0;
+    if (count < 3 || (!reverting && strcmp(words[1], "run") != 0))
         return usage();
     struct options options = {0, 0, NULL};
+    const char *order = NULL;
     int at = 2;
     for (; at < count && strncmp(words[at], "--", 2) == 0; at++)
         if (strcmp(words[at], "--stop-at-refusal") == 0)
@@ -905,9 +974,15 @@ int main(int count, char **words) {
             options.all_or_nothing = 1;
         else if (strcmp(words[at], "--copy") == 0 && at + 1 < count && !strchr(words[at + 1], '/'))
             options.copy = words[++at];
+        else if (reverting && strcmp(words[at], "--order") == 0 && at + 1 < count)
+            order = words[++at];
         else
             return usage();
     if (count - at < 1 || count - at > 2 || (options.stop_at_refusal && options.all_or_nothing))
         return usage();
-    return run(words[at], count - at == 2 ? words[at + 1] : NULL, &options);
+    if (reverting)
+        return count - at == 2 ? revert(words[at], words[at + 1], order, &options) : usage();
+    size_t batch_len;
+    const uint8_t *batch = read_batch(&batch_len);
+    return run(words[at], count - at == 2 ? words[at + 1] : NULL, &options, batch, batch_len);
 }

@@ -7,7 +7,8 @@
    protected  as pages; and what a call must not write to may only be read while it runs: all areas where
               1, 2, 3 or 18 is due, and of a live read always; the batch always; the slab of a fresh store
               always, and live disk and marks, which it does not get; all but live disk and marks of a
-              copying step. A call that writes there all the same counts as one that differs
+              copying step; all but the list of a listing, and the list where it is refused. A call that
+              writes there all the same counts as one that differs
    exact      an allocation of just its length, for a run under a tool that watches allocations
 
    With `all` as the second argument every refusal and stop must come up; with `first` the first difference ends it. */
@@ -27,10 +28,10 @@
 #include <sys/mman.h>
 #include <unistd.h>
 
-enum { HEAD, BRANCHES, RECORDS, PLACES, NAMES, SLAB, DISK, MARKS, BATCH, ANSWERS, AREAS };
+enum { HEAD, BRANCHES, RECORDS, PLACES, NAMES, SLAB, DISK, MARKS, BATCH, ANSWERS, LIST, AREAS };
 
 static const char *const area_names[AREAS] = {
-    "head", "branches", "records", "places", "names", "slab", "disk", "marks", "batch", "answers"
+    "head", "branches", "records", "places", "names", "slab", "disk", "marks", "batch", "answers", "list"
 };
 
 /* An area as a call takes it; those of a store; live disk and marks. */
@@ -39,9 +40,9 @@ static const char *const area_names[AREAS] = {
 #define LIVE LENT(DISK), LENT(MARKS)
 
 /* The kinds of calls. */
-enum { FRESH, A_BATCH, LIVE_READ, STEP, KINDS };
+enum { FRESH, A_BATCH, LIVE_READ, STEP, LISTING, KINDS };
 
-static const char *const kind_names[KINDS] = { "fresh stores", "batches", "live reads", "steps" };
+static const char *const kind_names[KINDS] = { "fresh stores", "batches", "live reads", "steps", "listings" };
 
 enum { MARGIN = 512 };
 
@@ -65,6 +66,7 @@ struct counts {
     uint64_t calls, compared, differ, answered;
     uint64_t results[KINDS][NUMBERS], refusals[NUMBERS];
     uint64_t pages[3], copied;            /* pages of live reads: none, on the disk, in the slab; pages brought to date */
+    uint64_t orders;                      /* work orders listed */
     uint64_t read_only[KINDS][NUMBERS];   /* calls whose store was protected, by their results */
 };
 
@@ -245,6 +247,8 @@ static bool only_read(int area, int kind, uint64_t due)
         return refused(due) || area == BATCH;
     case STEP:
         return refused(due) || !live;
+    case LISTING:
+        return due != KIZMOOLET_OK || area != LIST;
     default:
         return true;
     }
@@ -252,15 +256,17 @@ static bool only_read(int area, int kind, uint64_t due)
 
 static void protect_for(int kind, uint64_t due, int how)
 {
-    for (int i = HEAD; protecting && i <= (kind == A_BATCH ? ANSWERS : MARKS); i++)
-        if (only_read(i, kind, due))
+    for (int i = HEAD; protecting && i < AREAS; i++) {
+        bool lent = i <= MARKS || (kind == A_BATCH && i <= ANSWERS) || (kind == LISTING && i == LIST);
+        if (lent && only_read(i, kind, due))
             protect(&areas[i], how);
+    }
 }
 
 /* The result of a call is the one that is due. */
 static void count_read_only(int kind, uint64_t result)
 {
-    if (protecting && (refused(result) || kind == LIVE_READ || kind == STEP))
+    if (protecting && (refused(result) || kind >= LIVE_READ))
         counts.read_only[kind][result % NUMBERS]++;
 }
 
@@ -446,6 +452,52 @@ static void run_copy_step(void)
     check_margins();
 }
 
+/* The list of work orders: what it must hold, and the same by the function for hosts. */
+static void compare_orders(uint64_t count)
+{
+    const uint8_t *list = areas[LIST].bytes;
+    for (size_t i = 0; i < count; i++)
+        if (kizmoolet_order_at(list, i) != (uint32_t)list[2 * i] * 256 + list[2 * i + 1]) {
+            differs("a work order, taken from", "the list");
+            break;
+        }
+}
+
+static void run_work_orders(void)
+{
+    uint32_t moment = (uint32_t)get_number();
+    get_area(&areas[LIST]);
+    uint32_t result = (uint32_t)get_number();
+    uint64_t count = get_number();
+    static uint64_t got_count;
+    got_count = ~count; /* another number than is due: it must be written */
+    counts.calls++;
+    call_told = false;
+    protect_for(LISTING, result, PROT_READ);
+    if (sigsetjmp(before_call, 1) == 0) {
+        calling = 1;
+        uint32_t got = kizmoolet_work_orders(STORE, moment, LENT(LIST), &got_count);
+        calling = 0;
+        counts.results[LISTING][got % NUMBERS]++;
+        if (got != result || got_count != count) {
+            differs("what is told of", "the listing");
+            if (printed <= 20)
+                printf("  moment %" PRIu32 ", space %zu: result %" PRIu32 ", count %" PRIu64 ", should %" PRIu32 ", %" PRIu64 "\n",
+                    moment, areas[LIST].length, got, got_count, result, count);
+        } else {
+            count_read_only(LISTING, result);
+            counts.orders += count;
+        }
+    } else {
+        calling = 0;
+        tell_fault();
+    }
+    protect_for(LISTING, result, PROT_READ | PROT_WRITE);
+    compare_area(&areas[LIST], area_names[LIST]);
+    compare_orders(count);
+    check_margins();
+}
+
 static void print_numbers(const uint64_t *numbers, int from)
 {
     const char *before = "";
@@ -482,8 +534,10 @@ static void end_family(void)
     print_kinds(counts.results);
     printf("; refusals ");
     print_numbers(counts.refusals, 1);
-    printf("\n    pages of live reads: on the disk %" PRIu64 ", in the slab %" PRIu64 ", none %" PRIu64 "; copied %" PRIu64 "\n",
-        counts.pages[KIZMOOLET_AREA_DISK], counts.pages[KIZMOOLET_AREA_SLAB], counts.pages[KIZMOOLET_AREA_NONE], counts.copied);
+    printf("\n    pages of live reads: on the disk %" PRIu64 ", in the slab %" PRIu64 ", none %" PRIu64 "; copied %" PRIu64
+           "; work orders listed %" PRIu64 "\n",
+        counts.pages[KIZMOOLET_AREA_DISK], counts.pages[KIZMOOLET_AREA_SLAB], counts.pages[KIZMOOLET_AREA_NONE], counts.copied,
+        counts.orders);
     if (protecting) {
         printf("    on areas that may only be read: ");
         print_kinds(counts.read_only);
@@ -520,6 +574,9 @@ static bool may_be(int kind, int number)
         return true;
     case LIVE_READ:
         return table_check || number == KIZMOOLET_ADDRESS_TOO_HIGH;
+    case LISTING:
+        return (table_check && number != KIZMOOLET_DISK_UNFIT) || number == KIZMOOLET_MOMENT_TOO_EARLY
+            || number == KIZMOOLET_MOMENT_TOO_LATE || number == KIZMOOLET_ANSWERS_FULL;
     default:
         return table_check;
     }
@@ -528,7 +585,7 @@ static bool may_be(int kind, int number)
 /* And then on areas that may only be read? */
 static bool may_be_read_only(int kind, int number)
 {
-    return may_be(kind, number) && (refused((uint64_t)number) || kind == LIVE_READ || kind == STEP);
+    return may_be(kind, number) && (refused((uint64_t)number) || kind >= LIVE_READ);
 }
 
 static void *work(void *result)
@@ -560,6 +617,8 @@ static void *work(void *result)
             run_live_read();
         } else if (tag == 'S') {
             run_copy_step();
+        } else if (tag == 'O') {
+            run_work_orders();
         } else if (tag == 'C') {
             counts.compared++;
             for (int i = HEAD; i <= MARKS; i++)

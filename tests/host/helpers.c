@@ -4,10 +4,11 @@
    1. Every request and answer that helpers/main.rs writes, packed and unpacked: the bytes are those of the reference; into an
       area that is too short nothing is packed, and answers that are cut short anywhere are not unpacked. For every place table
       that it writes, up to which byte the slab is in use; only whole rows are looked at. For every name table, which row has a
-      name, and its moment. For the marks of every live disk, how many pages are stale, and the marks once all are.
+      name, and its moment. For the marks of every live disk, how many pages are stale, and the marks once all are. For every list
+      of work orders each of them, and branch rows of 12 bytes made rows of 16.
    2. The pointer to the page of a live read.
    3. Each of the numbers 0 to 18, by its name, comes from the library where the header says, and so do a page's date, the rows
-      of names, the record rows read, live reads and copying steps. */
+      of names, the record rows read, live reads, copying steps and work orders. */
 
 #include "kizmoolet.h"
 #include "kizmoolet_requests.h"
@@ -72,7 +73,7 @@ static int all_guard(const uint8_t *from, size_t length)
     return 1;
 }
 
-/* Behind a request: its page or its name. */
+/* Behind a request: its page or its name. The address of a revert is its work order. */
 static int add(struct kizmoolet_requests *to, uint64_t operation, uint32_t address, uint32_t moment, const uint8_t *behind)
 {
     switch (operation) {
@@ -81,7 +82,7 @@ static int add(struct kizmoolet_requests *to, uint64_t operation, uint32_t addre
     case KIZMOOLET_MARK:
         return kizmoolet_add_mark(to);
     case KIZMOOLET_REVERT:
-        return kizmoolet_add_revert(to, moment);
+        return kizmoolet_add_revert(to, moment, address);
     case KIZMOOLET_READ:
         return kizmoolet_add_read(to, address, moment);
     case KIZMOOLET_RECLAIM:
@@ -263,6 +264,40 @@ static void one_table_of_marks(void)
     free(marks);
 }
 
+/* Each work order of a list, an allocation of its own. */
+static void one_list(void)
+{
+    static uint8_t bytes[KIZMOOLET_MOST_LIST_BYTES];
+    size_t i, length = get_area(bytes, sizeof bytes), count = (size_t)get_number();
+    uint8_t *part = (uint8_t *)malloc(length != 0 ? length : 1);
+    if (part == NULL)
+        fail("no memory");
+    memcpy(part, bytes, length);
+    CHECK(length == count * KIZMOOLET_ORDER_BYTES);
+    for (i = 0; i < count; i++)
+        CHECK(kizmoolet_order_at(part, i) == get_number());
+    free(part);
+}
+
+/* Branch rows of a version before 0.7.0; the areas are allocations of their own, none where there is no row. */
+static void some_branch_rows(void)
+{
+    static uint8_t narrow[12 * KIZMOOLET_MOST_BRANCHES], wide[KIZMOOLET_BRANCH_BYTES * KIZMOOLET_MOST_BRANCHES];
+    size_t length = get_area(narrow, sizeof narrow), wide_len = get_area(wide, sizeof wide), count = length / 12;
+    uint8_t *from = length != 0 ? (uint8_t *)malloc(length) : NULL, *to = length != 0 ? (uint8_t *)malloc(wide_len) : NULL;
+    if (length != 0 && (from == NULL || to == NULL))
+        fail("no memory");
+    if (length != 0) {
+        memcpy(from, narrow, length);
+        memset(to, GUARD, wide_len);
+    }
+    kizmoolet_widen_branches(from, count, to);
+    CHECK(wide_len == count * KIZMOOLET_BRANCH_BYTES);
+    CHECK(length == 0 || (memcmp(to, wide, wide_len) == 0 && memcmp(from, narrow, length) == 0));
+    free(from);
+    free(to);
+}
+
 static void reference_sizes(void)
 {
     CHECK(get_number() == KIZMOOLET_PAGE_BYTES);
@@ -288,11 +323,14 @@ static void reference_sizes(void)
     CHECK(get_number() == KIZMOOLET_AREA_NONE);
     CHECK(get_number() == KIZMOOLET_AREA_DISK);
     CHECK(get_number() == KIZMOOLET_AREA_SLAB);
+    CHECK(get_number() == KIZMOOLET_ORDER_BYTES);
+    CHECK(get_number() == KIZMOOLET_MOST_ORDER);
+    CHECK(get_number() == KIZMOOLET_MOST_LIST_BYTES);
 }
 
 static void against_reference(void)
 {
-    unsigned long requests = 0, answers = 0, place_tables = 0, name_tables = 0, live_disks = 0;
+    unsigned long requests = 0, answers = 0, place_tables = 0, name_tables = 0, live_disks = 0, lists = 0, widened = 0;
     struct kizmoolet_answers from;
     struct kizmoolet_answer answer;
     all_packed = kizmoolet_requests_in(packed_requests, sizeof packed_requests);
@@ -316,6 +354,12 @@ static void against_reference(void)
         } else if (tag == 'M') {
             one_table_of_marks();
             live_disks++;
+        } else if (tag == 'O') {
+            one_list();
+            lists++;
+        } else if (tag == 'W') {
+            some_branch_rows();
+            widened++;
         } else if (tag == 'Z') {
             break;
         } else {
@@ -329,8 +373,10 @@ static void against_reference(void)
         answers_seen--;
     CHECK(answers_seen == 0 && from.at == all_answers_len);
     CHECK(requests > 14000 && answers > 4000 && place_tables > 20000 && name_tables > 20000 && live_disks > 8000);
-    printf("  %lu requests, %lu answers, %lu place tables, %lu name tables, marks of %lu live disks\n", requests, answers,
-        place_tables, name_tables, live_disks);
+    CHECK(lists > 100 && widened > 60);
+    printf("  %lu requests, %lu answers, %lu place tables, %lu name tables, marks of %lu live disks, %lu lists of work orders, "
+           "%lu tables of branch rows\n",
+        requests, answers, place_tables, name_tables, live_disks, lists, widened);
 }
 
 /* ---- 2. the pointer to the page of a live read */
@@ -471,7 +517,7 @@ static void named(void)
     CHECK(kizmoolet_name_count(head) == 1 && kizmoolet_number_at(head + KIZMOOLET_HEAD_NAMES_AT) == 1);
     CHECK(kizmoolet_name_row(head, names, built) == 0 && kizmoolet_named_moment(names, 0) == 0);
     CHECK(kizmoolet_name_row(head, names, later) == 1 && kizmoolet_name_row(head, names, other) == 1);
-    kizmoolet_add_revert(&list, 0);
+    kizmoolet_add_revert(&list, 0, 1);
     for (i = 1; i < KIZMOOLET_MOST_NAMES; i++) {
         other[0] = (uint8_t)i;
         kizmoolet_add_name(&list, i % 3, other);
@@ -577,7 +623,7 @@ static void live(void)
     CHECK(copy_step(2) == KIZMOOLET_OK && copied == 2 && marks[0] == (current | blank) && marks[1] == (current | blank));
     CHECK(kizmoolet_stale_pages(marks, marks_len) == 3 && lies_at(0, NULL) && lies_at(2, NULL));
     kizmoolet_add_mark(&list);
-    kizmoolet_add_revert(&list, 0);
+    kizmoolet_add_revert(&list, 0, 2);
     CHECK(send_list() == KIZMOOLET_OK && kizmoolet_stale_pages(marks, marks_len) == 6 && marks[0] == blank && marks[5] == 0);
     CHECK(lies_at(5, slab) && area == KIZMOOLET_AREA_SLAB && lies_at(0, NULL));
     CHECK(copy_step(0) == KIZMOOLET_OK && copied == 0);
@@ -622,7 +668,7 @@ static void by_name(void)
     fresh(2, 2, 2);
     kizmoolet_add_write(&list, 5, letters);
     kizmoolet_add_mark(&list);
-    kizmoolet_add_revert(&list, 0);
+    kizmoolet_add_revert(&list, 0, 3);
     kizmoolet_add_read(&list, 5, 2);
     kizmoolet_add_read(&list, 4, 2);
     kizmoolet_add_reclaim(&list, 1);
@@ -639,7 +685,7 @@ static void by_name(void)
     CHECK(kizmoolet_number_at(head + KIZMOOLET_HEAD_PAGES_AT) == 6);
     CHECK(kizmoolet_number_at(head + KIZMOOLET_HEAD_BRANCHES_AT) == 2);
     CHECK(kizmoolet_number_at(head + KIZMOOLET_HEAD_RECORDS_AT) == 1);
-    kizmoolet_add_revert(&list, 0);
+    kizmoolet_add_revert(&list, 0, 4);
     CHECK(send_list() == KIZMOOLET_OK && refused() == KIZMOOLET_MOMENT_TOO_EARLY);
     dated(0, 1);
     dated(0x01020304, 0x01020305);
@@ -668,7 +714,7 @@ static void by_name(void)
     CHECK(send_list() == KIZMOOLET_OK && refused() == KIZMOOLET_OK && refused() == KIZMOOLET_PLACES_FULL);
     fresh(1, 1, 1);
     kizmoolet_add_mark(&list);
-    kizmoolet_add_revert(&list, 0);
+    kizmoolet_add_revert(&list, 0, 0);
     kizmoolet_add_read(&list, 0, 2);
     CHECK(send_list() == KIZMOOLET_OK && refused() == KIZMOOLET_OK);
     CHECK(refused() == KIZMOOLET_BRANCHES_FULL && refused() == KIZMOOLET_MOMENT_TOO_LATE);
@@ -696,6 +742,82 @@ static void by_name(void)
     list = kizmoolet_requests_in(batch, sizeof batch);
     CHECK(kizmoolet_add_read(&list, 65536 + 5, 0) == 0 && list.failed && list.length == 0);
     CHECK(kizmoolet_add_reclaim(&list, 0) == 0 && list.length == 0);
+    /* Nor is a work order. */
+    list = kizmoolet_requests_in(batch, sizeof batch);
+    batch[0] = GUARD;
+    CHECK(kizmoolet_add_revert(&list, 0, KIZMOOLET_MOST_ORDER + 1) == 0 && list.failed && list.length == 0 && batch[0] == GUARD);
+    CHECK(kizmoolet_add_mark(&list) == 0 && list.length == 0);
+    list = kizmoolet_requests_in(batch, sizeof batch);
+    CHECK(kizmoolet_add_revert(&list, 0, UINT32_MAX) == 0 && list.failed && list.length == 0);
+    list = kizmoolet_requests_in(batch, sizeof batch);
+    CHECK(kizmoolet_add_revert(&list, 0, KIZMOOLET_MOST_ORDER) == 1 && !list.failed && list.length == KIZMOOLET_REQUEST_BYTES);
+}
+
+static uint8_t orders[8];
+static uint64_t count;
+
+/* A listing; the count holds another number before the call, the list guards. */
+static uint32_t work_orders(uint32_t moment, size_t space)
+{
+    memset(orders, GUARD, sizeof orders);
+    count = UINT64_MAX;
+    return kizmoolet_work_orders(head, sizeof head, branches, KIZMOOLET_BRANCH_BYTES * branch_rows, records,
+        KIZMOOLET_RECORD_BYTES * record_rows, places, KIZMOOLET_PLACE_BYTES * place_rows, names, sizeof names, slab,
+        KIZMOOLET_PAGE_BYTES * place_rows, moment, orders, space, &count);
+}
+
+/* The listing is refused with this number, and writes nothing but the count. */
+static int not_listed(uint32_t moment, size_t space, uint32_t number)
+{
+    return work_orders(moment, space) == number && count == 0 && all_guard(orders, sizeof orders);
+}
+
+/* Work orders by the names of the header; and a store with branch rows of 12 bytes, as a version before 0.7.0 left them. */
+static void listed(void)
+{
+    static const uint8_t built[] = "as built";
+    uint8_t narrow[24], before[sizeof branches];
+    size_t row;
+    fresh(2, 2, 2);
+    CHECK(work_orders(0, 2) == KIZMOOLET_OK && count == 1 && kizmoolet_order_at(orders, 0) == 0);
+    CHECK(all_guard(orders + 2, sizeof orders - 2));
+    kizmoolet_add_mark(&list);
+    kizmoolet_add_name(&list, 0, built);
+    kizmoolet_add_revert(&list, 0, 0x1234);
+    kizmoolet_add_revert(&list, 1, KIZMOOLET_MOST_ORDER);
+    CHECK(send_list() == KIZMOOLET_OK && answered == 4);
+    CHECK(refused() == KIZMOOLET_OK && refused() == KIZMOOLET_OK && refused() == KIZMOOLET_OK);
+    CHECK(refused() == KIZMOOLET_BRANCHES_FULL);
+    CHECK(work_orders(2, sizeof orders) == KIZMOOLET_OK && count == 2 && all_guard(orders + 4, sizeof orders - 4));
+    CHECK(kizmoolet_order_at(orders, 0) == 0x1234 && orders[0] == 0x12 && orders[1] == 0x34 && kizmoolet_order_at(orders, 1) == 0);
+    CHECK(work_orders(2, 2 * KIZMOOLET_ORDER_BYTES) == KIZMOOLET_OK && count == 2);
+    CHECK(not_listed(2, 2 * KIZMOOLET_ORDER_BYTES - 1, KIZMOOLET_ANSWERS_FULL) && not_listed(2, 0, KIZMOOLET_ANSWERS_FULL));
+    CHECK(not_listed(3, 0, KIZMOOLET_MOMENT_TOO_LATE) && not_listed(KIZMOOLET_LAST_MOMENT, 8, KIZMOOLET_MOMENT_TOO_LATE));
+    kizmoolet_add_reclaim(&list, 2);
+    CHECK(send_list() == KIZMOOLET_OK && refused() == KIZMOOLET_OK);
+    CHECK(not_listed(1, 0, KIZMOOLET_MOMENT_TOO_EARLY) && not_listed(1, 8, KIZMOOLET_MOMENT_TOO_EARLY));
+    CHECK(work_orders(0, 8) == KIZMOOLET_OK && count == 1 && kizmoolet_order_at(orders, 0) == 0);
+
+    put_number(branches + KIZMOOLET_BRANCH_BYTES + 12, KIZMOOLET_MOST_ORDER);
+    CHECK(send_list() == KIZMOOLET_OK && work_orders(2, 4) == KIZMOOLET_OK);
+    CHECK(kizmoolet_order_at(orders, 0) == KIZMOOLET_MOST_ORDER);
+    put_number(branches + KIZMOOLET_BRANCH_BYTES + 12, KIZMOOLET_MOST_ORDER + 1);
+    CHECK(send_list() == KIZMOOLET_BRANCHES_UNSOUND && not_listed(2, 4, KIZMOOLET_BRANCHES_UNSOUND));
+    put_number(branches + KIZMOOLET_BRANCH_BYTES + 12, 0);
+    memcpy(before, branches, sizeof before);
+    for (row = 0; row < 2; row++)
+        memcpy(narrow + 12 * row, branches + KIZMOOLET_BRANCH_BYTES * row, 12);
+    memset(branches, GUARD, sizeof branches);
+    kizmoolet_widen_branches(narrow, 2, branches);
+    CHECK(memcmp(before, branches, sizeof before) == 0);
+    CHECK(send_list() == KIZMOOLET_OK && work_orders(2, 4) == KIZMOOLET_OK && count == 2 && kizmoolet_order_at(orders, 0) == 0);
+    put_number(branches + 12, 1);
+    CHECK(send_list() == KIZMOOLET_BRANCHES_UNSOUND && not_listed(2, 4, KIZMOOLET_BRANCHES_UNSOUND));
+    put_number(branches + 12, 0);
+    put_number(places, 1);
+    CHECK(not_listed(2, 4, KIZMOOLET_RECORDS_UNSOUND));
+    put_number(head + KIZMOOLET_HEAD_PAGES_AT, 0);
+    CHECK(not_listed(2, 4, KIZMOOLET_OUT_OF_RANGE));
 }
 
 int main(void)
@@ -707,12 +829,14 @@ int main(void)
     CHECK(KIZMOOLET_PAGE_ANSWER_BYTES == KIZMOOLET_ANSWER_BYTES + KIZMOOLET_DATE_BYTES + KIZMOOLET_PAGE_BYTES);
     CHECK(KIZMOOLET_NAMED_BYTES == KIZMOOLET_REQUEST_BYTES + KIZMOOLET_NAME_BYTES);
     CHECK(KIZMOOLET_NAMES_BYTES == KIZMOOLET_MOST_NAMES * KIZMOOLET_NAME_ROW_BYTES);
+    CHECK(KIZMOOLET_MOST_LIST_BYTES == KIZMOOLET_MOST_BRANCHES * KIZMOOLET_ORDER_BYTES);
     against_reference();
     live_pages();
     by_name();
     named();
     rows();
     live();
+    listed();
     printf("  %lu checks, %lu wrong\n", checks, wrong);
     return wrong == 0 ? 0 : 1;
 }

@@ -100,6 +100,18 @@ static __attribute__((noinline)) void *call_copy_step(void *unused)
     return unused;
 }
 
+static uint32_t moment;
+static uint8_t list[KIZMOOLET_MOST_LIST_BYTES];
+static size_t list_len = sizeof list;
+
+static __attribute__((noinline)) void *call_work_orders(void *unused)
+{
+    uint64_t count;
+    called_from = __builtin_frame_address(0);
+    result = kizmoolet_work_orders(STORE, moment, list, list_len, &count);
+    return unused;
+}
+
 /* The bytes of stack that the call takes. */
 static size_t taken(void *(*call)(void *))
 {
@@ -142,7 +154,7 @@ static void all_requests(void)
     for (uint32_t i = 0; i < 100; i++) {
         kizmoolet_add_write(&to, i, page);
         kizmoolet_add_mark(&to);
-        kizmoolet_add_revert(&to, 2 * i);
+        kizmoolet_add_revert(&to, 2 * i, 600 * i);
         kizmoolet_add_read(&to, i, i);
         name[0] = (uint8_t)i;
         kizmoolet_add_name(&to, i, name);
@@ -175,6 +187,18 @@ static void tell_live(void)
     store.marks_len++;
 }
 
+/* Work orders at now, which lists the most; no space for them; a moment that cannot be read. */
+static void tell_orders(void)
+{
+    moment = kizmoolet_now(store.head);
+    tell("kizmoolet_work_orders, largest tables", call_work_orders, KIZMOOLET_OK);
+    list_len = 1;
+    tell("kizmoolet_work_orders, largest tables, refused with 14", call_work_orders, KIZMOOLET_ANSWERS_FULL);
+    list_len = sizeof list;
+    moment++;
+    tell("kizmoolet_work_orders, largest tables, refused with 9", call_work_orders, KIZMOOLET_MOMENT_TOO_LATE);
+}
+
 int main(void)
 {
     make(KIZMOOLET_MOST_PAGES, KIZMOOLET_MOST_BRANCHES, KIZMOOLET_MOST_RECORDS, KIZMOOLET_MOST_PLACES);
@@ -184,10 +208,12 @@ int main(void)
     all_requests();
     tell("kizmoolet_batch, largest tables, all seven requests", call_batch, KIZMOOLET_OK);
     tell_live();
+    tell_orders();
     store.places[0] ^= 1;
     tell("kizmoolet_batch, largest tables, refused with 3", call_batch, KIZMOOLET_RECORDS_UNSOUND);
     tell("kizmoolet_live_read, largest tables, refused with 3", call_live_read, KIZMOOLET_RECORDS_UNSOUND);
     tell("kizmoolet_copy_step, largest tables, refused with 3", call_copy_step, KIZMOOLET_RECORDS_UNSOUND);
+    tell("kizmoolet_work_orders, largest tables, refused with 3", call_work_orders, KIZMOOLET_RECORDS_UNSOUND);
     make(1, 1, 1, 1);
     tell("kizmoolet_fresh, tables of one row", call_fresh, KIZMOOLET_OK);
     batch_len = 0;
@@ -195,11 +221,14 @@ int main(void)
     address = 0;
     tell("kizmoolet_live_read, tables of one row", call_live_read, KIZMOOLET_OK);
     tell("kizmoolet_copy_step, tables of one row", call_copy_step, KIZMOOLET_OK);
+    moment = 0;
+    tell("kizmoolet_work_orders, tables of one row", call_work_orders, KIZMOOLET_OK);
     store.places_len = 3;
     tell("kizmoolet_fresh, refused with 1 for a length", call_fresh, KIZMOOLET_OUT_OF_RANGE);
     tell("kizmoolet_batch, refused with 1 for a length", call_batch, KIZMOOLET_OUT_OF_RANGE);
     tell("kizmoolet_live_read, refused with 1 for a length", call_live_read, KIZMOOLET_OUT_OF_RANGE);
     tell("kizmoolet_copy_step, refused with 1 for a length", call_copy_step, KIZMOOLET_OUT_OF_RANGE);
+    tell("kizmoolet_work_orders, refused with 1 for a length", call_work_orders, KIZMOOLET_OUT_OF_RANGE);
     printf("  KIZMOOLET_STACK_BYTES %53u bytes\n", KIZMOOLET_STACK_BYTES);
     return most <= KIZMOOLET_STACK_BYTES && most > KIZMOOLET_STACK_BYTES / 2 ? 0 : 1;
 }

@@ -217,3 +217,44 @@ pub unsafe extern "C" fn kizmoolet_copy_step(
     *copied_pages = told.copied;
     told.refusal
 }
+
+/// # Safety
+/// Each pointer is to as many bytes as the length after it says; the count may be written.
+#[no_mangle]
+pub unsafe extern "C" fn kizmoolet_work_orders(
+    head: *const u8,
+    head_len: usize,
+    branches: *const u8,
+    branches_len: usize,
+    records: *const u8,
+    records_len: usize,
+    places: *const u8,
+    places_len: usize,
+    names: *const u8,
+    names_len: usize,
+    slab: *const u8,
+    slab_len: usize,
+    moment: u32,
+    list: *mut u8,
+    list_len: usize,
+    count: *mut u64,
+) -> u32 {
+    let parts = [
+        (head.cast_mut(), head_len),
+        (branches.cast_mut(), branches_len),
+        (records.cast_mut(), records_len),
+        (places.cast_mut(), places_len),
+        (names.cast_mut(), names_len),
+        (slab.cast_mut(), slab_len),
+        // Live disk and marks are not passed.
+        (std::ptr::null_mut(), 0),
+        (std::ptr::null_mut(), 0),
+    ];
+    let mut areas = taken(&parts);
+    let mut area = copied((list, list_len));
+    let told = reference::work_orders(&mut areas, moment, &mut area);
+    returned(&parts, &areas);
+    give_back((list, list_len), &area);
+    *count = told.count;
+    told.refusal
+}

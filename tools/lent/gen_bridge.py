@@ -33,6 +33,8 @@ LIFES = [p for p in PS if p.elem]
 MUTS = [p for p in LIFES if p.mut]
 MAKE = NUMBERS + [SLAB]          # `make_fresh`: the tables as `&mut`, the slab as `&`
 NM = 2 + len(MAKE)               # its lifetimes, with those of the head and the rows
+HEAD_NUMBERS, ROW_NUMBERS = 6, 4 # of a head and of a branch row
+zeros_are = lambda n: nest(["(refl, lit< tt)"] * n)
 kappas, queues = nest(p.kappa for p in LIFES), nest(p.q for p in LIFES)
 names = lambda ps, f=lambda p: p.name: " ".join(f(p) for p in ps)
 LENT = "(zeroRows %s slab)" % names(NUMBERS)
@@ -77,7 +79,7 @@ HEAD = fill(open('tools/lent/bridge_header.txt').read(), dict(
     STAYED=stay, KS=names(LIFES, lambda p: p.kappa), QS=names(LIFES, lambda p: p.q),
     VARS="(size : ℕ) " + names(LIFES, lambda p: "(b%s o%s : ℕ) (γ%s : GName) (%s : List ℕ)" % (S(p.i), S(p.i), S(p.i), p.name)),
     ROOMS="(fits%s : size < 2 ^ 32) " % S(SIZE.i) + names(LIFES, lambda p: "(room%s : Room %s (length %s))" % (S(p.i), p.elem, p.name)),
-    REFS=refs, ARGTY=times(["ℕ"] + ["RefT (List ℕ)"] * len(LIFES)), A=nest(p.arg() for p in PS), AT=nest(p.val + " ∷ []" for p in PS), KAPPAS=kappas, QUEUES=queues, CTX=cons(ctx), EXITS=EXITS,
+    HEADIS=zeros_are(HEAD_NUMBERS), ROWIS=zeros_are(ROW_NUMBERS), REFS=refs, ARGTY=times(["ℕ"] + ["RefT (List ℕ)"] * len(LIFES)), A=nest(p.arg() for p in PS), AT=nest(p.val + " ∷ []" for p in PS), KAPPAS=kappas, QUEUES=queues, CTX=cons(ctx), EXITS=EXITS,
     LENT=LENT, ZTYS=lists(MUTS), ZNAMES=names(MUTS, lambda p: p.z), ZSTORE=names(NUMBERS + [SLAB], lambda p: p.z), ZANSWERS=ANSWERS.z, ZDISK="%s %s" % (DISK.z, MARKS.z), RANDISK="%s %s" % (after(DISK), after(MARKS)),
     SAMES=" → ".join("length %s ≡ length %s" % (p.z, p.name) for p in MUTS), SAMEN=names(MUTS, lambda p: p.same),
     MADETYS=lists(NUMBERS), MADE=names(NUMBERS, made), RANTYS=lists(MUTS), RAN=names(MUTS, after), RANSTORE=names(NUMBERS + [SLAB], after), RANANSWERS=after(ANSWERS),
@@ -109,8 +111,8 @@ lits = lambda n: w.opds(*["(lit ! tt)"] * n)
 TH = lambda h, e: "LL.lawful T.the-type T′.the-laws 𝓤 H A W .typed %s _ %s .0" % (h, e)
 LOWB = "(B′.lowered zero-branch)"
 w.emit("-- the head and the rows in their locals, as what a reference borrows")
-w.assign("agg ! " + lits(6), L["head"], TH("head₀", "head-is"))
-w.assign("agg ! " + lits(3), L["row"], "LL.lawful B.the-type B′.the-laws 𝓤 H A W .typed zero-branch _ row-is .0")
+w.assign("agg ! " + lits(HEAD_NUMBERS), L["head"], TH("head₀", "head-is"))
+w.assign("agg ! " + lits(ROW_NUMBERS), L["row"], "LL.lawful B.the-type B′.the-laws 𝓤 H A W .typed zero-branch _ row-is .0")
 w.assign("rep ! 16 " + w.load(L["row"]), L["rows"], "repeat-typed S zero-branch %s row-is 𝓤 H A W 16 (LL.lawful B.the-type B′.the-laws 𝓤 H A W)" % LOWB)
 w.emit("owned ! R (Is R) ((LL.makes T.the-type T′.the-plain) 𝓤 H A) head₀ _ head-is $"); w.become(0, "hown")
 w.step("use2 W (‵ (mem R .lies head₀ %s 0)) (lies-in 𝓤 H A W %s head₀ (T′.lowered head₀))" % (LH, LH), [L["head"], "hown"], "lies")

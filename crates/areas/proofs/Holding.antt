@@ -38,7 +38,7 @@ small-flat f g [] h = small-none
 small-flat f g (x ∷ xs) h = all-append (g x (h .each x (inl refl))) (small-flat f g xs (record { each = λ y m. h .each y (inr m) }))
 
 branch-small : (b : Branch) → SmallBranch b → All Small (branchFields b)
-branch-small b s = small-cons (s .start) (small-cons (s .end) (small-cons (s .cut) small-none))
+branch-small b s = small-cons (s .start) (small-cons (s .end) (small-cons (s .cut) (small-cons (s .order) small-none)))
 
 record-small : (r : Record) → SmallRecord r → All Small (recordFields r)
 record-small r s = small-cons (s .address) (small-cons (s .moment) (small-cons (s .place) small-none))

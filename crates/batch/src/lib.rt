@@ -51,7 +51,7 @@ pub fn serve(
     match q {
         Request::Write(a) => writing::write(head, rt, pt, slab, a, &part[7..263], low),
         Request::Mark => store::mark(head),
-        Request::Revert(m) => store::revert(head, bt, nt, m),
+        Request::Revert(m, w) => store::revert(head, bt, nt, m, w),
         Request::ReadAt(a, m) => store::read(head, bt, rt, nt, a, m),
         Request::Reclaim(m) => {
             *low = 0;

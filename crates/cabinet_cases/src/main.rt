@@ -23,6 +23,8 @@ fn main() {
     case(b"named");
     case(b"withdrawn");
     case(b"names");
+    case(b"orders");
+    case(b"stop-13-address");
     case(b"stop-11-name");
     case(b"stop-13-name");
     case(b"weekly");

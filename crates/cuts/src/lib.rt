@@ -26,6 +26,7 @@ pub fn take_over(bt: &mut [u32], n: usize, marks: &[u8])
             start: b.start,
             end: b.end,
             cut: d.cut,
+            order: b.order,
         };
         rows::set_branch(bt, i, taken);
         i += 1;

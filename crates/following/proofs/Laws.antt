@@ -36,7 +36,7 @@ pub lands : (u : Store) (d : LiveDisk) (q : Request) → Fit u d → Whole q →
 lands u d (write a page) f w e =
     (omega (arith, write-inside u a page e, f .sized .bytes), omega (arith, write-inside u a page e, f .sized .marks), w)
 lands u d mark f w e = tt
-lands u d (revert m) f w e = tt
+lands u d (revert m o) f w e = tt
 lands u d (readAt a m) f w e = tt
 lands u d (reclaim m) f w e = tt
 lands u d (give n) f w e = tt

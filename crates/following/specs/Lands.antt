@@ -9,7 +9,7 @@ use Rattle.live.specs.Live.{LiveDisk}
 abbrev pub Lands : Request → LiveDisk → Type 0
 Lands (write a page) d = (256 * a + 256 ≤ length (d .bytes)) × (a < length (d .marks)) × (length page ≡ 256)
 Lands mark d = Unit {0}
-Lands (revert m) d = Unit {0}
+Lands (revert m w) d = Unit {0}
 Lands (readAt a m) d = Unit {0}
 Lands (reclaim m) d = Unit {0}
 Lands (give n) d = Unit {0}

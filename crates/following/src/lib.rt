@@ -34,7 +34,7 @@ pub fn follow(disk: &mut [u8], marks: &mut [u8], part: &[u8], q: Request, refusa
             marks[i] = 1;
         }
         Request::Mark => {}
-        Request::Revert(_) => {
+        Request::Revert(_, _) => {
             stale_all(marks);
         }
         Request::ReadAt(_, _) => {}

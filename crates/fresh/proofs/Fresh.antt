@@ -53,13 +53,13 @@ module _ {head : Head} {size : ℕ} {t : Tables} where
   refused e = record { refusal = rw e; head = rw e; tables = rw e (laid-self head t) }
 
   -- tables that are cleared, with the first branch set
-  made : {bt′ : List ℕ} → allowedIn size t ≡ true → BranchSet (zeros (length (t .branches))) 0 (record { start = 0; end = open-end; cut = 0 }) bt′
+  made : {bt′ : List ℕ} → allowedIn size t ≡ true → BranchSet (zeros (length (t .branches))) 0 (record { start = 0; end = open-end; cut = 0; order = 0 }) bt′
       → Fresh head size t (record { head = first size; refusal = 0 }) (tables bt′ (zeros (length (t .records))) (zeros (length (t .places))) (zeros (length (t .names))) (t .slab))
   unfolding refusalOf fresh
   made {bt′} ok eb =
       let w : WholeRows t = allowed-whole size t ok in
       let lb : length bt′ ≡ length (t .branches) = set-length branch-kind eb ∙ length-zeros (length (t .branches)) in
-      let rb : branchRowsOf bt′ ≡ set (replicate (length (branchRowsOf (t .branches))) zero-branch) 0 (record { start = 0; end = open-end; cut = 0 }) =
+      let rb : branchRowsOf bt′ ≡ set (replicate (length (branchRowsOf (t .branches))) zero-branch) 0 (record { start = 0; end = open-end; cut = 0; order = 0 }) =
       set-rows branch-kind eb ∙ rw (zero-rows branch-kind zero-branch refl (length (t .branches)), branch-count (t .branches)) in
       let rr : recordRowsOf (zeros (length (t .records))) ≡ replicate (length (recordRowsOf (t .records))) zero-record =
       rw (zero-rows record-kind zero-record refl (length (t .records)), record-count (t .records)) in
@@ -75,7 +75,7 @@ module _ {head : Head} {size : ℕ} {t : Tables} where
       }
 
   -- the same of tables that are known by equations
-  pub made-by : {z bt′ rt′ pt′ nt′ : List ℕ} → allowedIn size t ≡ true → z ≡ zeros (length (t .branches)) → BranchSet z 0 (record { start = 0; end = open-end; cut = 0 }) bt′
+  pub made-by : {z bt′ rt′ pt′ nt′ : List ℕ} → allowedIn size t ≡ true → z ≡ zeros (length (t .branches)) → BranchSet z 0 (record { start = 0; end = open-end; cut = 0; order = 0 }) bt′
       → rt′ ≡ zeros (length (t .records)) → pt′ ≡ zeros (length (t .places)) → nt′ ≡ zeros (length (t .names))
       → Fresh head size t (record { head = first size; refusal = 0 }) (tables bt′ rt′ pt′ nt′ (t .slab))
   made-by ok ez eb er ep en = rw (er, ep, en) (made ok (rw ez at eb))

@@ -59,6 +59,7 @@ pub fn make(
             start: 0,
             end: OPEN_END,
             cut: 0,
+            order: 0,
         },
     );
     let first = Head {

@@ -26,9 +26,10 @@ pub record Same (b r : Branch) : Type 0 where
   pub start : b .start ≡ r .start
   pub end : b .end ≡ r .end
   pub cut : b .cut ≡ r .cut
+  pub order : b .order ≡ r .order
 
 pub same : {b r : Branch} → b ≡ r → Same b r
-same e = record { start = ap (λ (b : Branch). b .start) e; end = ap (λ (b : Branch). b .end) e; cut = ap (λ (b : Branch). b .cut) e }
+same e = record { start = ap (λ (b : Branch). b .start) e; end = ap (λ (b : Branch). b .end) e; cut = ap (λ (b : Branch). b .cut) e; order = ap (λ (b : Branch). b .order) e }
 
 -- the newest of the first i rows
 pub top-row : (rows : List Branch) (i : ℕ) → 0 < i → i ≤ length rows → newestOf rows i ≡ branch rows (i - 1) ∷ newestOf rows (i - 1)
@@ -103,7 +104,7 @@ chain-up : (floor high : ℕ) (bs : List Branch) → floor ≤ high → Chain fl
 chain-up floor high [] l h = h
 chain-up floor high (b ∷ []) l h = h
 chain-up floor high (b ∷ c ∷ bs) l h =
-    (record { ordered = h .0 .ordered; after = h .0 .after; follows = λ m. h .0 .follows (omega arith); parent = h .0 .parent }, chain-up floor high (c ∷ bs) l (h .1))
+    (record { ordered = h .0 .ordered; after = h .0 .after; follows = λ m. h .0 .follows (omega arith); parent = h .0 .parent; order = h .0 .order }, chain-up floor high (c ∷ bs) l (h .1))
 
 -- the last gap ends where the newest row starts, or before
 unbroken-most : (floor : ℕ) (b : Branch) (bs : List Branch) → Chain floor (b ∷ bs) → unbroken (b ∷ bs) ≤ b .start
@@ -122,9 +123,9 @@ chain-unbroken floor (b ∷ []) h = h
 chain-unbroken floor (b ∷ c ∷ bs) h =
     case (eqb (b .start) (c .end + 1))
     (λ e. rw e
-    (record { ordered = h .0 .ordered; after = h .0 .after; follows = λ _. eqb-true _ _ e; parent = h .0 .parent }, chain-unbroken floor (c ∷ bs) (h .1)))
+    (record { ordered = h .0 .ordered; after = h .0 .after; follows = λ _. eqb-true _ _ e; parent = h .0 .parent; order = h .0 .order }, chain-unbroken floor (c ∷ bs) (h .1)))
     (λ e. rw e
-    (record { ordered = h .0 .ordered; after = h .0 .after; follows = λ m. absurd (omega arith); parent = h .0 .parent }, chain-up (unbroken (c ∷ bs)) (b .start) (c ∷ bs) (omega (arith, unbroken-most floor c bs (h .1), chain-ordered floor c bs (h .1), h .0)) (chain-unbroken floor (c ∷ bs) (h .1))))
+    (record { ordered = h .0 .ordered; after = h .0 .after; follows = λ m. absurd (omega arith); parent = h .0 .parent; order = h .0 .order }, chain-up (unbroken (c ∷ bs)) (b .start) (c ∷ bs) (omega (arith, unbroken-most floor c bs (h .1), chain-ordered floor c bs (h .1), h .0)) (chain-unbroken floor (c ∷ bs) (h .1))))
 
 pub chained-unbroken : (floor : ℕ) (bs : List Branch) → chained floor bs ≡ true → chained (unbroken bs) bs ≡ true
 chained-unbroken floor bs h = →chained (unbroken bs) bs (chain-unbroken floor bs (chained→ floor bs h))

@@ -14,7 +14,7 @@ use Rattle.model.specs.Packed.{slabInUse, HeldUpTo, Copy}
 use Rattle.model.proofs.Bytes.{number-fits, take-fits}
 use Rattle.model.proofs.Kept.{Small, SmallBranch, SmallRecord, SmallName, All, all-get, Narrow}
 use Rattle.model.proofs.Copies.{copy-sound, stays-packed, copies-agree}
-use Rattle.rows.specs.Rows.{tab, rowsBy, branchRowsOf, recordRowsOf, nameRowsOf}
+use Rattle.rows.specs.Rows.{branchWidth, tab, rowsBy, branchRowsOf, recordRowsOf, nameRowsOf}
 use Rattle.rows.specs.View.{tables}
 use Rattle.rows.proofs.View.{laid-self}
 use Rattle.tables.specs.Numbers.{spelledAt, spelled, numbersOf, headOf}
@@ -60,7 +60,9 @@ at-small bs h i = all-get (numbersOf bs) i 0 (omega arith) (numbers-small bs h)
 
 branches-small : (bs : List ℕ) → Bytes bs → All SmallBranch (branchRowsOf (numbersOf bs))
 unfolding rowsBy
-branches-small bs h = all-tab (length (numbersOf bs) / 3) _ (λ i l. record { start = at-small bs h (i * 3 + 0); end = at-small bs h (i * 3 + 1); cut = at-small bs h (i * 3 + 2) })
+branches-small bs h =
+    all-tab (length (numbersOf bs) / branchWidth) _
+    (λ i l. record { start = at-small bs h (i * branchWidth + 0); end = at-small bs h (i * branchWidth + 1); cut = at-small bs h (i * branchWidth + 2); order = at-small bs h (i * branchWidth + 3) })
 
 records-small : (bs : List ℕ) → Bytes bs → All SmallRecord (recordRowsOf (numbersOf bs))
 unfolding rowsBy

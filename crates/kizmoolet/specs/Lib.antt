@@ -4,3 +4,4 @@ pub mod Packed
 pub mod Commissioned
 pub mod RowsRead
 pub mod LiveDemand
+pub mod WorkOrders

@@ -6,6 +6,8 @@ ghost use Rattle.fresh_areas.specs.Fresh.{freshLeft, FreshDone};
 ghost use Rattle.batch_areas.specs.Batch.{batchLeft, BatchDone};
 ghost use Rattle.copying.specs.Copy.{Copies};
 ghost use Rattle.live_areas.specs.Live.{liveReadBytes, copyBytes};
+ghost use Rattle.listing.specs.Lists.{Lists};
+ghost use Rattle.listing_areas.specs.Lists.{listBytes};
 ghost use Rattle.kizmoolet.specs.Told.{Tells};
 
 // Makes a fresh store of `size` pages; 1, and nothing written, where the size or a length is not allowed.
@@ -186,4 +188,44 @@ pub extern "C" fn kizmoolet_copy_step(
     );
     *copied = done.count as u64;
     done.refusal
+}
+
+// The work orders of a moment, listed; the result is the refusal, or 0. Always written: how many work orders are listed.
+#[no_mangle]
+pub extern "C" fn kizmoolet_work_orders(
+    head: &[u8],
+    branches: &[u8],
+    records: &[u8],
+    places: &[u8],
+    names: &[u8],
+    slab: &[u8],
+    moment: u32,
+    list: &mut [u8],
+    count: &mut u64,
+) -> u32
+    ensures { λ r. ⌜ Lists (listBytes (lent (now (head .entry)) (now (branches .entry)) (now (records .entry)) (now (places .entry)) (now (names .entry)) (now (slab .entry))) moment (now (list .entry))) (record { refusal = r; count = now (count .exit) }) (now (list .exit)) ⌝ }
+{
+    let fit = tables::lengths_fit(
+        head.len(),
+        branches.len(),
+        records.len(),
+        places.len(),
+        names.len(),
+    );
+    if !fit {
+        *count = 0;
+        return 1;
+    }
+    let listed = listing_areas::list_areas(
+        head,
+        branches,
+        records,
+        places,
+        names,
+        slab,
+        moment,
+        list,
+    );
+    *count = listed.count as u64;
+    listed.refusal
 }

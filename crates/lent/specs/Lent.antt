@@ -1,4 +1,4 @@
--- What is lent with the branch table as rows of three numbers: the store that it is, a batch on it, a fresh store over it.
+-- What is lent with the branch table as rows of four numbers: the store that it is, a batch on it, a fresh store over it.
 use mathlib.Core.Path.{_≡_}
 use mathlib.Core.List.{List}
 use mathlib.Core.Bool.{Bool, cond, _&&_}

@@ -233,6 +233,7 @@ pub fn fresh_batch(
         start: 0,
         end: 0,
         cut: 0,
+        order: 0,
     };
     let mut branches = [row; 16];
     make_fresh(&mut head, size, &mut branches, rt, pt, nt, slab);

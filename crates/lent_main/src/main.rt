@@ -1,5 +1,6 @@
-// The worked session P1 to P10, and a named state behind it, as one batch on a fresh store, through the lent forms. Standard input holds the requests;
-// the answers go to standard output, then the report and the head, a line each.
+// The worked session P1 to P10, its two reverts with work orders 4,711 and 65,535, and a named state behind it, as one batch on a
+// fresh store, through the lent forms. Standard input holds the requests; the answers go to standard output, then the report and
+// the head, a line each.
 use lent::Ended;
 ghost use mathlib.Core.Path.{_≡_};
 ghost use Prim.Native.Nat.{_*_};

@@ -116,7 +116,7 @@ now-found s q b h w e a =
 abbrev Still : Request → Type 0
 Still (write a page) = ⊥
 Still mark = Unit {0}
-Still (revert m) = ⊥
+Still (revert m w) = ⊥
 Still (readAt a m) = Unit {0}
 Still (reclaim m) = Unit {0}
 Still (give n) = Unit {0}
@@ -130,7 +130,7 @@ fed-still : (s : Store) (q : Request) → Still q → (a : ℕ) → bytesOf (fed
 unfolding feed accept pageNow
 fed-still s (write b page) h a = absurd h
 fed-still s mark h a = rw (eq-eqb (s .head .now + 1) (s .head .now + 1) refl)
-fed-still s (revert m) h a = absurd h
+fed-still s (revert m w) h a = absurd h
 fed-still s (readAt b m) h a = refl
 fed-still s (reclaim m) h a = refl
 fed-still s (give n) h a = refl
@@ -175,7 +175,7 @@ asked s d q = following d q (step s q .answer .refusal)
 sized-follows : (s : Store) (d : LiveDisk) (q : Request) → Fit s d → Whole q → step s q .answer .refusal ≡ 0 → Sized (s .head .size) (follows d q)
 sized-follows s d (write a page) f w e = put-sized (f .sized) a page (write-inside s a page e) w
 sized-follows s d mark f w e = f .sized
-sized-follows s d (revert m) f w e =
+sized-follows s d (revert m o) f w e =
     record { bytes = f .sized .bytes; marks = length-map (d .marks) staled ∙ f .sized .marks; small = small-staled (d .marks) (f .sized .small) }
 sized-follows s d (readAt a m) f w e = f .sized
 sized-follows s d (reclaim m) f w e = f .sized
@@ -206,7 +206,7 @@ faithful-follows s d (write a page) f w h e b i c =
     let c′ : isCurrent (markOf d b) ≡ true = rw (getD-set-other (d .marks) a b 1 0 ne) at c in
     rw (fed-write s a page b, g) (put-other (f .sized) a page (write-inside s a page e) w b ne ∙ h b i c′))
 faithful-follows s d mark f w h e b i c = h b i c ∙ sym (fed-still s mark tt b)
-faithful-follows s d (revert m) f w h e b i c = absurd (false≢true (sym (all-staled (d .marks) b) ∙ c))
+faithful-follows s d (revert m o) f w h e b i c = absurd (false≢true (sym (all-staled (d .marks) b) ∙ c))
 faithful-follows s d (readAt a m) f w h e b i c = h b i c ∙ sym (fed-still s (readAt a m) tt b)
 faithful-follows s d (reclaim m) f w h e b i c = h b i c ∙ sym (fed-still s (reclaim m) tt b)
 faithful-follows s d (give n) f w h e b i c = h b i c ∙ sym (fed-still s (give n) tt b)

@@ -1,23 +1,20 @@
 -- What is kept of a live disk: by the pages of a copying step, and by the requests of a batch.
-use Prim.Native.Nat.{ℕ, zero, suc, _-_, _<_}
+use Prim.Native.Nat.{ℕ, zero, suc, _<_}
 use mathlib.Core.Path.{_≡_, refl, ap, subst⁻¹, _∙_}
 use mathlib.Core.List.{List, [], _∷_}
 use mathlib.Core.Option.{Option, some, none}
 use native.Mathlib.Omega.{arith}
-use lib.Dec.{ltb}
 use lib.ListN.{length, take, drop}
 use lib.Seq.{take-nil}
 use Rattle.model.specs.declared.Record.{Record}
 use Rattle.model.specs.Store.{Store}
 use Rattle.model.specs.Soundness.{tableCheck}
-use Rattle.model.specs.Wire.{Request, one, parse, answerBytes}
+use Rattle.model.specs.Wire.{Request}
 use Rattle.model.specs.Step.{step}
-use Rattle.model.specs.Batch.{Run, run, batch}
+use Rattle.model.specs.Batch.{batch}
 use Rattle.model.specs.ByNumber.{Whole}
-use Rattle.model.proofs.Base.{case}
-use Rattle.model.proofs.Parsing.{Reads, parse-reads, caseParsed}
-use Rattle.model.proofs.Running.{run-end, run-stop, run-full, run-one, batch-run}
-use Rattle.live.specs.Live.{LiveDisk, played, foundNow, broughtAs, brought, broughtAll, stale}
+use Rattle.model.proofs.Keeping as model
+use Rattle.live.specs.Live.{LiveDisk, following, played, foundNow, broughtAs, brought, broughtAll, stale}
 use Rattle.live.proofs.Stale.{FirstStale, first-stale}
 use Rattle.live.proofs.Behind.{asked}
 
@@ -68,31 +65,7 @@ copied-keeps s P (suc n) h d p =
 
 -- what each request keeps is kept by a batch
 module _ (P : Store → LiveDisk → Type 0) (keeps : (s : Store) (d : LiveDisk) (q : Request) → Whole q → P s d → P (step s q .store) (asked s d q)) where
-  abbrev Kept : LiveDisk → Run → Type 0
-  Kept d r = P (r .store) (played d (r .log))
-
-  abbrev KeptOn : ℕ → Type 0
-  KeptOn fuel = (s : Store) (d : LiveDisk) (input : List ℕ) (space : ℕ) → P s d → Kept d (run fuel s input space)
-
-  kept-suc : (fuel : ℕ) → KeptOn fuel → KeptOn (suc fuel)
+  pub batch-keeps : (s : Store) (d : LiveDisk) (input : List ℕ) (space : ℕ) → tableCheck s ≡ 0 → P s d
+      → P (batch s input space .store) (played d (batch s input space .log))
   unfolding played
-  kept-suc fuel ih s d input space p =
-      caseParsed (parse input)
-      (λ e. rw (run-end fuel s input space e) p)
-      (λ n e. rw (run-stop fuel s input space n e) p)
-      (λ q n e.
-      let w : Reads (length input) (one q n) = rw e at (parse-reads input) in
-      case (ltb space (length (answerBytes (step s q .answer))))
-      (λ c. rw (run-full fuel s input space q n e c) p)
-      (λ c. rw (run-one fuel s input space q n e c)
-      (ih (step s q .store) (asked s d q) (drop n input) (space - length (answerBytes (step s q .answer))) (keeps s d q (w .0) p))))
-
-  kept-run : (fuel : ℕ) → KeptOn fuel
-  kept-run zero = kept-zero
-    where
-      kept-zero : KeptOn 0
-      kept-zero s d input space p = unfold run played in p
-  kept-run (suc fuel) = kept-suc fuel (kept-run fuel)
-
-  pub batch-keeps : (s : Store) (d : LiveDisk) (input : List ℕ) (space : ℕ) → tableCheck s ≡ 0 → P s d → Kept d (batch s input space)
-  batch-keeps s d input space c p = rw (batch-run s input space c) (kept-run (suc (length input)) s d input space p)
+  batch-keeps = model.batch-keeps (λ d e. following d (e .request) (e .answer .refusal)) played (λ d. refl) (λ d e es. refl) P keeps

@@ -107,7 +107,7 @@ first-stale k (m ∷ ms) a rest h =
 follows-stale : (d : LiveDisk) (q : Request) → isRevert q ≡ false → length (stale (follows d q)) ≤ length (stale d)
 follows-stale d (write a page) e = stale-set 0 (d .marks) a 1 refl
 follows-stale d mark e = omega arith
-follows-stale d (revert m) e = absurd (false≢true (sym e))
+follows-stale d (revert m w) e = absurd (false≢true (sym e))
 follows-stale d (readAt a m) e = omega arith
 follows-stale d (reclaim m) e = omega arith
 follows-stale d (give n) e = omega arith

@@ -69,7 +69,7 @@ staled m = m - m % 2
 abbrev pub follows : LiveDisk → Request → LiveDisk
 follows d (write a page) = putPage d a page
 follows d mark = d
-follows d (revert m) = diskOf (d .bytes) (map staled (d .marks))
+follows d (revert m w) = diskOf (d .bytes) (map staled (d .marks))
 follows d (readAt a m) = d
 follows d (reclaim m) = d
 follows d (give n) = d

@@ -46,7 +46,7 @@ readNow s a = bytesOf (step s (readAt a (s .head .now)) .answer .page)
 abbrev pub isRevert : Request → Bool
 isRevert (write a page) = false
 isRevert mark = false
-isRevert (revert m) = true
+isRevert (revert m w) = true
 isRevert (readAt a m) = false
 isRevert (reclaim m) = false
 isRevert (give n) = false

@@ -22,14 +22,16 @@ pub chained→ : (floor : ℕ) (bs : List Branch) → chained floor bs ≡ true 
 unfolding chained
 chained→ floor [] e = absurd (false≢true e)
 chained→ floor (b ∷ []) e =
-    let p : (eqb (b .start) 0 ≡ true) × ((eqb (b .cut) 0 && leb (b .start) (b .end)) ≡ true) = and→ _ _ e in
-    let q : (eqb (b .cut) 0 ≡ true) × (leb (b .start) (b .end) ≡ true) = and→ _ _ (p .1) in
-    record { start = eqb-true _ _ (p .0); cut = eqb-true _ _ (q .0); ordered = leb-true _ _ (q .1) }
+    let p : (eqb (b .start) 0 ≡ true) × ((eqb (b .cut) 0 && (eqb (b .order) 0 && leb (b .start) (b .end))) ≡ true) = and→ _ _ e in
+    let q : (eqb (b .cut) 0 ≡ true) × ((eqb (b .order) 0 && leb (b .start) (b .end)) ≡ true) = and→ _ _ (p .1) in
+    let r : (eqb (b .order) 0 ≡ true) × (leb (b .start) (b .end) ≡ true) = and→ _ _ (q .1) in
+    record { start = eqb-true _ _ (p .0); cut = eqb-true _ _ (q .0); order = eqb-true _ _ (r .0); ordered = leb-true _ _ (r .1) }
 chained→ floor (b ∷ c ∷ bs) e =
-    let p : (leb (b .start) (b .end) ≡ true) × ((ltb (c .end) (b .start) && ((eqb (b .start) (c .end + 1) || leb (b .start) floor) && (any (λ d. holds d (b .cut)) (c ∷ bs) && chained floor (c ∷ bs)))) ≡ true) = and→ _ _ e in
-    let q : (ltb (c .end) (b .start) ≡ true) × (((eqb (b .start) (c .end + 1) || leb (b .start) floor) && (any (λ d. holds d (b .cut)) (c ∷ bs) && chained floor (c ∷ bs))) ≡ true) = and→ _ _ (p .1) in
-    let r : ((eqb (b .start) (c .end + 1) || leb (b .start) floor) ≡ true) × ((any (λ d. holds d (b .cut)) (c ∷ bs) && chained floor (c ∷ bs)) ≡ true) = and→ _ _ (q .1) in
-    let t : (any (λ d. holds d (b .cut)) (c ∷ bs) ≡ true) × (chained floor (c ∷ bs) ≡ true) = and→ _ _ (r .1) in (
+    let p : (leb (b .start) (b .end) ≡ true) × ((ltb (c .end) (b .start) && ((eqb (b .start) (c .end + 1) || leb (b .start) floor) && (any (λ d. holds d (b .cut)) (c ∷ bs) && (leb (b .order) 65535 && chained floor (c ∷ bs))))) ≡ true) = and→ _ _ e in
+    let q : (ltb (c .end) (b .start) ≡ true) × (((eqb (b .start) (c .end + 1) || leb (b .start) floor) && (any (λ d. holds d (b .cut)) (c ∷ bs) && (leb (b .order) 65535 && chained floor (c ∷ bs)))) ≡ true) = and→ _ _ (p .1) in
+    let r : ((eqb (b .start) (c .end + 1) || leb (b .start) floor) ≡ true) × ((any (λ d. holds d (b .cut)) (c ∷ bs) && (leb (b .order) 65535 && chained floor (c ∷ bs))) ≡ true) = and→ _ _ (q .1) in
+    let t : (any (λ d. holds d (b .cut)) (c ∷ bs) ≡ true) × ((leb (b .order) 65535 && chained floor (c ∷ bs)) ≡ true) = and→ _ _ (r .1) in
+    let u : (leb (b .order) 65535 ≡ true) × (chained floor (c ∷ bs) ≡ true) = and→ _ _ (t .1) in (
       record {
         ordered = leb-true _ _ (p .0);
         after = ltb-true _ _ (q .0);
@@ -40,8 +42,9 @@ chained→ floor (b ∷ c ∷ bs) e =
               | inr x ↦ let y : b .start ≤ floor = leb-true _ _ x in absurd (omega arith)
             ];
         parent = t .0;
+        order = leb-true _ _ (u .0);
       },
-      chained→ floor (c ∷ bs) (t .1),
+      chained→ floor (c ∷ bs) (u .1),
     )
 
 pub open→ : (floor now : ℕ) (bs : List Branch) → (openRow now bs && chained floor bs) ≡ true → SoundRows floor now bs

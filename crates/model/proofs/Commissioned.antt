@@ -37,7 +37,7 @@ module _ (n : Name) (p : Reference) (m : n ∈ p .names) (l : n .moment < p .now
   unfolding accept
   accept-keeps (write a page) w = record { named = m; sealed = l; same = later (p .now) _ l }
   accept-keeps mark w = record { named = m; sealed = omega arith; same = later (p .now + 1) _ (omega arith) }
-  accept-keeps (revert t) w = record { named = m; sealed = omega arith; same = later (p .now + 1) _ (omega arith) }
+  accept-keeps (revert t o) w = record { named = m; sealed = omega arith; same = later (p .now + 1) _ (omega arith) }
   accept-keeps (readAt a t) w = record { named = m; sealed = l; same = λ b. refl }
   accept-keeps (reclaim t) w = record { named = m; sealed = l; same = λ b. refl }
   accept-keeps (give x) w = record { named = mem-left n (p .names) (x ∷ []) m; sealed = l; same = λ b. refl }

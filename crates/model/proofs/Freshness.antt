@@ -18,7 +18,7 @@ use Rattle.model.proofs.Invariant.{Inv}
 use Rattle.model.proofs.Kept.{Small, SmallBranch, SmallRecord, SmallName, all-set, all-replicate, Narrow, Kept}
 use Rattle.model.proofs.Checked.{sizes→}
 
-fresh-newest : (size nb nr np : ℕ) (slab : List ℕ) → 1 ≤ nb → newest (fresh size nb nr np slab) ≡ record { start = 0; end = open-end; cut = 0 } ∷ []
+fresh-newest : (size nb nr np : ℕ) (slab : List ℕ) → 1 ≤ nb → newest (fresh size nb nr np slab) ≡ record { start = 0; end = open-end; cut = 0; order = 0 } ∷ []
 unfolding newest branches fresh
 fresh-newest size zero nr np slab h = absurd (omega arith)
 fresh-newest size (suc nb) nr np slab h = refl
@@ -40,12 +40,12 @@ fresh-inv size nb nr np slab m =
     let lr : length (fresh size nb nr np slab .recordRows) ≡ nr = length-replicate nr zero-record in
     let lp : length (fresh size nb nr np slab .placeRows) ≡ np = length-replicate np 0 in
     let ln : length (fresh size nb nr np slab .nameRows) ≡ 32 = length-replicate 32 zero-name in
-    let en : newest (fresh size nb nr np slab) ≡ record { start = 0; end = open-end; cut = 0 } ∷ [] = fresh-newest size nb nr np slab (m .branches-low) in
+    let en : newest (fresh size nb nr np slab) ≡ record { start = 0; end = open-end; cut = 0; order = 0 } ∷ [] = fresh-newest size nb nr np slab (m .branches-low) in
     record {
       sound =
           record {
             sizes = omega arith;
-            rows = rw en (record { still = refl; begun = omega arith }, record { start = refl; cut = refl; ordered = omega arith });
+            rows = rw en (record { still = refl; begun = omega arith }, record { start = refl; cut = refl; order = refl; ordered = omega arith });
             names = record { apart = tt; fit = λ n i. absurd i };
             ascends = tt;
             fits = λ r i. absurd i;
@@ -75,6 +75,9 @@ module _ (lent : Store) (size : ℕ) (accepted : freshCheck lent size ≡ 0) whe
   unfolding madeFresh
   made-is = rw allowed
 
+  pub made-newest : newest (madeFresh lent size) ≡ record { start = 0; end = open-end; cut = 0; order = 0 } ∷ []
+  made-newest = rw made-is (fresh-newest size _ _ _ (lent .slab) (sizes .branches-low))
+
   pub made-inv : Inv (madeFresh lent size) empty
   made-inv = rw made-is (fresh-inv size _ _ _ (lent .slab) (rw (sizes .name-rows) at sizes))
 
@@ -90,8 +93,8 @@ module _ (lent : Store) (size : ℕ) (accepted : freshCheck lent size ≡ 0) whe
       (record {
         head = record { size = omega (arith, sizes .size-high); branches = omega arith; records = omega arith; now = omega arith; floor = omega arith; names = omega arith };
         branches =
-            all-set 0 _ (all-replicate SmallBranch (length (lent .branchRows)) zero-branch (record { start = omega arith; end = omega arith; cut = omega arith }))
-            (record { start = omega arith; end = omega arith; cut = omega arith });
+            all-set 0 _ (all-replicate SmallBranch (length (lent .branchRows)) zero-branch (record { start = omega arith; end = omega arith; cut = omega arith; order = omega arith }))
+            (record { start = omega arith; end = omega arith; cut = omega arith; order = omega arith });
         records = all-replicate SmallRecord (length (lent .recordRows)) zero-record (record { address = omega arith; moment = omega arith; place = omega arith });
         places = all-replicate Small (length (lent .placeRows)) 0 (omega arith);
         names = all-replicate SmallName 32 zero-name (record { high = omega arith; low = omega arith; moment = omega arith });

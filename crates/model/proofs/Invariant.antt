@@ -22,12 +22,12 @@ use Rattle.model.proofs.Names.{→names}
 pub →chained : (floor : ℕ) (bs : List Branch) → Chain floor bs → chained floor bs ≡ true
 unfolding chained
 →chained floor [] h = absurd h
-→chained floor (b ∷ []) h = →and (eq-eqb (b .start) 0 (h .start)) (→and (eq-eqb (b .cut) 0 (h .cut)) (le-leb (b .start) (b .end) (h .ordered)))
+→chained floor (b ∷ []) h = →and (eq-eqb (b .start) 0 (h .start)) (→and (eq-eqb (b .cut) 0 (h .cut)) (→and (eq-eqb (b .order) 0 (h .order)) (le-leb (b .start) (b .end) (h .ordered))))
 →chained floor (b ∷ c ∷ bs) h =
     let l : Link floor b c bs = h .0 in
     →and (le-leb (b .start) (b .end) (l .ordered))
     (→and (lt-ltb (c .end) (b .start) (l .after))
-    (→and (follows l) (→and (l .parent) (→chained floor (c ∷ bs) (h .1)))))
+    (→and (follows l) (→and (l .parent) (→and (le-leb (b .order) 65535 (l .order)) (→chained floor (c ∷ bs) (h .1))))))
   where
     follows : Link floor b c bs → (eqb (b .start) (c .end + 1) || leb (b .start) floor) ≡ true
     follows l =

@@ -48,6 +48,7 @@ pub record SmallBranch (b : Branch) : Type 0 where
   pub start : Small (b .start)
   pub end : Small (b .end)
   pub cut : Small (b .cut)
+  pub order : Small (b .order)
 
 pub record SmallRecord (r : Record) : Type 0 where
   pub address : Small (r .address)
@@ -203,9 +204,9 @@ written-kept s a page h w ad =
       narrow = λ n. record { head = n .head; branches = n .branches; records = n .records; places = n .places; names = n .names };
     }))
 
-branched-kept : (s : Store) (m : ℕ) → Sound s → m < s .head .now → s .head .now < open-end → s .head .branches < length (s .branchRows) → Kept s (branched s m)
+branched-kept : (s : Store) (m w : ℕ) → w ≤ 65535 → Sound s → m < s .head .now → s .head .now < open-end → s .head .branches < length (s .branchRows) → Kept s (branched s m w)
 unfolding branched
-branched-kept s m h l t room =
+branched-kept s m w v h l t room =
     let z : Sizes s = h .sizes in
     record {
       branches = simp length-set;
@@ -220,8 +221,8 @@ branched-kept s m h l t room =
           record {
             head = record { size = n .head .size; branches = omega (arith, z .allowed .branches-high); records = n .head .records; now = omega arith; floor = n .head .floor; names = n .head .names };
             branches =
-                all-set (s .head .branches) _ (all-set (s .head .branches - 1) _ (n .branches) (record { start = last .start; end = omega arith; cut = last .cut }))
-                (record { start = omega arith; end = omega arith; cut = omega arith });
+                all-set (s .head .branches) _ (all-set (s .head .branches - 1) _ (n .branches) (record { start = last .start; end = omega arith; cut = last .cut; order = last .order }))
+                (record { start = omega arith; end = omega arith; cut = omega arith; order = omega arith });
             records = n .records;
             places = n .places;
             names = n .names;
@@ -242,7 +243,7 @@ settled-small κ s h f =
           let q : (b : Branch) × (b ∈ keep κ (branches s)) × (x ≡ withCut b (landing κ (newest s) (b .cut))) = map-mem _ x (keep κ (branches s)) m in
           let b : SmallBranch (q .0) = f .each (q .0) (mem-keep κ (q .0) (branches s) (q .1) .0) in
           let l : landing κ (newest s) (q .0 .cut) ≤ q .0 .cut = landing-falls κ (newest s) (rows-falls _ _ (newest s) (h .rows)) (q .0 .cut) in
-          rw (q .2) (record { start = b .start; end = b .end; cut = omega (arith, b .cut) });
+          rw (q .2) (record { start = b .start; end = b .end; cut = omega (arith, b .cut); order = b .order });
     }
 
 reclaimed-kept : (s : Store) (m : ℕ) → Sound s → m ≤ s .head .now → Kept s (after s m)
@@ -274,7 +275,7 @@ reclaimed-kept s m h u =
                   names = n .head .names;
                 };
             branches =
-                closed-small zero-branch _ (s .head .branches) (s .branchRows) (record { start = omega arith; end = omega arith; cut = omega arith })
+                closed-small zero-branch _ (s .head .branches) (s .branchRows) (record { start = omega arith; end = omega arith; cut = omega arith; order = omega arith })
                 (settled-small (isLeft s m) s h (old-rows n)) (n .branches);
             records =
                 closed-small zero-record _ (s .head .records) (s .recordRows) (record { address = omega arith; moment = omega arith; place = omega arith })
@@ -354,7 +355,7 @@ step-kept s mark h w =
           };
     }))
     (λ e. rw e (kept-none s))
-step-kept s (revert m) h w =
+step-kept s (revert m o) h w =
     case (readable s m)
     (λ e₁.
     case (leb (s .head .now) m)
@@ -367,7 +368,7 @@ step-kept s (revert m) h w =
     (λ e. rw (e₁, e₂, e₃, e) (kept-none s))
     (λ e₄.
     rw (e₁, e₂, e₃, e₄)
-    (branched-kept s m h (leb-false (s .head .now) m e₂) (leb-false open-end (s .head .now) e₃) (leb-false (length (s .branchRows)) (s .head .branches) e₄))))))
+    (branched-kept s m o w h (leb-false (s .head .now) m e₂) (leb-false open-end (s .head .now) e₃) (leb-false (length (s .branchRows)) (s .head .branches) e₄))))))
     (λ e. rw e (kept-none s))
 step-kept s (readAt a m) h w =
     kept-if s (ltb a (s .head .size)) _ _

@@ -31,3 +31,4 @@ pub mod Commissioned
 pub mod RowsRead
 pub mod Removal
 pub mod Again
+pub mod Keeping

@@ -16,7 +16,7 @@ use Rattle.model.specs.declared.Record.{Record}
 use Rattle.model.specs.declared.Name.{Name}
 use Rattle.model.specs.Store.{Store, branches, newest, records, names, moments, any, open-end, zero-branch, foundPage, _∈_}
 use Rattle.model.specs.Lookup.{holds, within, orElse, latest, lookup, readable}
-use Rattle.model.specs.Wire.{Request, write, mark, revert, readAt, reclaim, give, withdraw, refused}
+use Rattle.model.specs.Wire.{Request, write, mark, revert, readAt, reclaim, give, withdraw, refused, accepted}
 use Rattle.model.specs.Step.{Stepped, unchanged, doMark, closedAt, branched, doRevert}
 use Rattle.model.specs.Reference.{Snapshot, Reference, withSnapshot, accept, feed}
 use Rattle.model.proofs.Base.{case, absurd-test, reverse-snoc, map-mem, readable-above, readable→}
@@ -40,7 +40,7 @@ same-inv s snaps h r = record { sound = h; now = refl; floor = refl; names = ref
 not-reclaim : (q : Request) (n : ℕ) → acceptedReclaim q (refused (suc n)) ≡ false
 not-reclaim (write a page) n = refl
 not-reclaim mark n = refl
-not-reclaim (revert m) n = refl
+not-reclaim (revert m w) n = refl
 not-reclaim (readAt a m) n = refl
 not-reclaim (reclaim m) n = eqb·suc-zero n
 not-reclaim (give x) n = refl
@@ -140,7 +140,7 @@ holds-closed : (b : Branch) (now x : ℕ) → x ≤ now → now ≤ b .end → h
 unfolding holds
 holds-closed b now x i l = rw (le-leb x now i, le-leb x (b .end) (omega arith))
 
-any-closed : (b : Branch) (bs : List Branch) (now x : ℕ) → x ≤ now → now ≤ b .end
+pub any-closed : (b : Branch) (bs : List Branch) (now x : ℕ) → x ≤ now → now ≤ b .end
     → any (λ d. holds d x) (closedAt now b ∷ bs) ≡ any (λ d. holds d x) (b ∷ bs)
 unfolding any
 any-closed b bs now x i l = rw (holds-closed b now x i l)
@@ -179,13 +179,13 @@ readable-held s h t e l =
     ]
 
 chain-closed : (floor now : ℕ) (b : Branch) (bs : List Branch) → b .start ≤ now → Chain floor (b ∷ bs) → Chain floor (closedAt now b ∷ bs)
-chain-closed floor now b [] l h = record { start = h .start; cut = h .cut; ordered = l }
+chain-closed floor now b [] l h = record { start = h .start; cut = h .cut; order = h .order; ordered = l }
 chain-closed floor now b (c ∷ bs) l h =
-    (record { ordered = l; after = h .0 .after; follows = h .0 .follows; parent = h .0 .parent }, h .1)
+    (record { ordered = l; after = h .0 .after; follows = h .0 .follows; parent = h .0 .parent; order = h .0 .order }, h .1)
 
 -- the branch that a revert begins
-abbrev pub begun : ℕ → ℕ → Branch
-begun now m = record { start = now + 1; end = open-end; cut = m }
+abbrev pub begun : ℕ → ℕ → ℕ → Branch
+begun now m w = record { start = now + 1; end = open-end; cut = m; order = w }
 
 counted-rows : (rows : List Branch) (k : ℕ) → k < length rows → reverse (take (suc k) rows) ≡ getD rows k zero-branch ∷ reverse (take k rows)
 counted-rows rows k l = rw (take-suc rows k zero-branch l) (reverse-snoc (take k rows) (getD rows k zero-branch))
@@ -198,15 +198,15 @@ branched-rows rows k c n l =
     let d : take (suc k) (set rows k c) ≡ take k rows ++ (c ∷ []) = take-suc-set rows k c (omega arith) in
     ap reverse e ∙ (reverse-snoc (take (suc k) (set rows k c)) n ∙ ap (λ (x : List Branch). n ∷ x) (ap reverse d ∙ reverse-snoc (take k rows) c))
 
-pub record Branching (s : Store) (m : ℕ) : Type 0 where
+pub record Branching (s : Store) (m w : ℕ) : Type 0 where
   pub row : Branch
   pub earlier : List Branch
   pub was : newest s ≡ row ∷ earlier
-  pub is : newest (branched s m) ≡ begun (s .head .now) m ∷ closedAt (s .head .now) row ∷ earlier
+  pub is : newest (branched s m w) ≡ begun (s .head .now) m w ∷ closedAt (s .head .now) row ∷ earlier
 
-branching : (s : Store) (m k : ℕ) → s .head .branches ≡ suc k → s .head .branches - 1 ≡ k → suc k < length (s .branchRows) → Branching s m
+pub branching : (s : Store) (m w k : ℕ) → s .head .branches ≡ suc k → s .head .branches - 1 ≡ k → suc k < length (s .branchRows) → Branching s m w
 unfolding newest branches branched
-branching s m k e d l =
+branching s m w k e d l =
     record {
       row = getD (s .branchRows) k zero-branch;
       earlier = reverse (take k (s .branchRows));
@@ -214,9 +214,9 @@ branching s m k e d l =
       is = rw (d, e, add-one (suc k)) (branched-rows (s .branchRows) k _ _ l);
     }
 
-revert-rows : (floor now m : ℕ) (b : Branch) (bs : List Branch) → now < open-end → any (λ d. holds d m) (b ∷ bs) ≡ true → m < now → SoundRows floor now (b ∷ bs)
-    → SoundRows floor (now + 1) (begun now m ∷ closedAt now b ∷ bs)
-revert-rows floor now m b bs i j l h =
+revert-rows : (floor now m w : ℕ) (b : Branch) (bs : List Branch) → now < open-end → any (λ d. holds d m) (b ∷ bs) ≡ true → m < now → w ≤ 65535 → SoundRows floor now (b ∷ bs)
+    → SoundRows floor (now + 1) (begun now m w ∷ closedAt now b ∷ bs)
+revert-rows floor now m w b bs i j l v h =
     let o : Open now b = h .0 in (
       record { still = refl; begun = omega arith },
       (
@@ -225,44 +225,69 @@ revert-rows floor now m b bs i j l h =
           after = omega arith;
           follows = λ x. refl;
           parent = any-closed b bs now m (omega arith) (omega arith) ∙ j;
+          order = v;
         },
         chain-closed floor now b bs (o .begun) (h .1),
       ),
     )
 
 -- reads up to now stay, and the new branch reads as the moment reverted to
-revert-old : (rs : List Record) (a now m : ℕ) (b : Branch) (bs : List Branch) (t : ℕ) → t ≤ now → now ≤ b .end
-    → find rs a (begun now m ∷ closedAt now b ∷ bs) t ≡ find rs a (b ∷ bs) t
-revert-old rs a now m b bs t i l =
-    find-skip rs a (begun now m) (closedAt now b ∷ bs) t (not-holds (begun now m) t (omega arith)) ∙ find-closed rs a b bs now t i l
+revert-old : (rs : List Record) (a now m w : ℕ) (b : Branch) (bs : List Branch) (t : ℕ) → t ≤ now → now ≤ b .end
+    → find rs a (begun now m w ∷ closedAt now b ∷ bs) t ≡ find rs a (b ∷ bs) t
+revert-old rs a now m w b bs t i l =
+    find-skip rs a (begun now m w) (closedAt now b ∷ bs) t (not-holds (begun now m w) t (omega arith)) ∙ find-closed rs a b bs now t i l
 
-revert-new : (rs : List Record) (a now m : ℕ) (b : Branch) (bs : List Branch) → m ≤ now → now ≤ b .end → now < open-end → UpTo now rs
-    → find rs a (begun now m ∷ closedAt now b ∷ bs) (now + 1) ≡ find rs a (b ∷ bs) m
-revert-new rs a now m b bs i l o u =
+revert-new : (rs : List Record) (a now m w : ℕ) (b : Branch) (bs : List Branch) → m ≤ now → now ≤ b .end → now < open-end → UpTo now rs
+    → find rs a (begun now m w ∷ closedAt now b ∷ bs) (now + 1) ≡ find rs a (b ∷ bs) m
+revert-new rs a now m w b bs i l o u =
     let e : latest rs a (now + 1) (now + 1) ≡ none =
     latest-none rs a (now + 1) (now + 1)
-    (λ q k. not-within a (now + 1) (now + 1) q (λ (w : Within a (now + 1) (now + 1) q). let f : q .moment ≤ now = u q k in omega arith)) in
-    find-hold rs a (begun now m) (closedAt now b ∷ bs) (now + 1) (→holds (begun now m) (now + 1) (omega arith) (omega arith))
+    (λ q k. not-within a (now + 1) (now + 1) q (λ (x : Within a (now + 1) (now + 1) q). let f : q .moment ≤ now = u q k in omega arith)) in
+    find-hold rs a (begun now m w) (closedAt now b ∷ bs) (now + 1) (→holds (begun now m w) (now + 1) (omega arith) (omega arith))
     ∙ (ap (λ (x : Option Record). orElse x (find rs a (closedAt now b ∷ bs) m)) e ∙ find-closed rs a b bs now m i l)
 
-pub revert-inv : (s : Store) (snaps : ℕ → Snapshot) (m : ℕ) → Sound s → Reads s snaps → readable s m ≡ true → m < s .head .now → s .head .now < open-end
-    → s .head .branches < length (s .branchRows) → Branching s m → Inv (branched s m) (accept (referenceOf s snaps) (revert m))
+-- an accepted revert: the moment can be read and is sealed, now can grow, and a branch row is free
+pub record Taken (s : Store) (m w : ℕ) : Type 0 where
+  pub low : readable s m ≡ true
+  pub sealed : m < s .head .now
+  pub later : s .head .now < open-end
+  pub room : s .head .branches < length (s .branchRows)
+  pub stepped : _≡_ {A = Stepped} (record { store = branched s m w; answer = accepted (s .head .now) }) (doRevert s m w)
+
+pub revert-taken : (s : Store) (m w : ℕ) → doRevert s m w .answer .refusal ≡ 0 → Taken s m w
+unfolding doRevert
+revert-taken s m w z =
+    case (readable s m)
+    (λ e.
+    case (leb (s .head .now) m) (λ f. absurd (no 8 (rw (e, f) at z)))
+    (λ f.
+    case (leb open-end (s .head .now)) (λ g. absurd (no 9 (rw (e, f, g) at z)))
+    (λ g.
+    case (leb (length (s .branchRows)) (s .head .branches)) (λ h. absurd (no 6 (rw (e, f, g, h) at z)))
+    (λ h. record { low = e; sealed = leb-false _ _ f; later = leb-false _ _ g; room = leb-false _ _ h; stepped = rw (e, f, g, h) }))))
+    (λ e. absurd (no 7 (rw e at z)))
+  where
+    no : (n : ℕ) → suc n ≡ 0 → ⊥
+    no n d = omega (arith, d)
+
+pub revert-inv : (s : Store) (snaps : ℕ → Snapshot) (m w : ℕ) → w ≤ 65535 → Sound s → Reads s snaps → readable s m ≡ true → m < s .head .now → s .head .now < open-end
+    → s .head .branches < length (s .branchRows) → Branching s m w → Inv (branched s m w) (accept (referenceOf s snaps) (revert m w))
 unfolding accept records names lookup branched
-revert-inv s snaps m h r i j l c b =
+revert-inv s snaps m w v h r i j l c b =
     let z : Sizes s = h .sizes in
-    let n : length (branched s m .branchRows) ≡ length (s .branchRows) = simp length-set in
+    let n : length (branched s m w .branchRows) ≡ length (s .branchRows) = simp length-set in
     let rows : SoundRows (s .head .floor) (s .head .now) (b .row ∷ b .earlier) = rw (b .was) at (h .rows) in
     let o : Open (s .head .now) (b .row) = rows .0 in
-    let kept : (x : ℕ) → x ≤ s .head .now → any (λ d. holds d x) (newest s) ≡ true → any (λ d. holds d x) (newest (branched s m)) ≡ true =
+    let kept : (x : ℕ) → x ≤ s .head .now → any (λ d. holds d x) (newest s) ≡ true → any (λ d. holds d x) (newest (branched s m w)) ≡ true =
     λ x k e. rw (b .is) (any-tail _ _ x (any-closed (b .row) (b .earlier) (s .head .now) x k (omega arith) ∙ rw (b .was) at e)) in
     record {
       sound =
           record {
             sizes = omega arith;
             names =
-                names-stay _ _ (newest s) (newest (branched s m)) (names s) (omega arith)
+                names-stay _ _ (newest s) (newest (branched s m w)) (names s) (omega arith)
                 (λ n k (f : NameFits (s .head .now) (newest s) n). kept (n .moment) (omega (arith, f .below)) (f .held)) (h .names);
-            rows = rw (b .is) (revert-rows _ _ m (b .row) (b .earlier) l (rw (b .was) at (readable-held s h m i (omega arith))) j rows);
+            rows = rw (b .is) (revert-rows _ _ m w (b .row) (b .earlier) l (rw (b .was) at (readable-held s h m i (omega arith))) j v rows);
             ascends = h .ascends;
             fits =
                 λ q k. let f : Fits (s .head .size) (s .head .now) (newest s) q = h .fits q k in
@@ -275,14 +300,15 @@ revert-inv s snaps m h r i j l c b =
       names = refl;
       held = refl;
       reads =
-          sealed-reads s snaps (lookup (branched s m)) m r i (omega arith)
-          (λ a t _ k. rw (b .is, b .was) (revert-old (records s) a (s .head .now) m (b .row) (b .earlier) t k (omega arith)))
-          (λ a. rw (b .is, b .was) (revert-new (records s) a (s .head .now) m (b .row) (b .earlier) (omega arith) (omega arith) l (up-to s h)));
+          sealed-reads s snaps (lookup (branched s m w)) m r i (omega arith)
+          (λ a t _ k. rw (b .is, b .was) (revert-old (records s) a (s .head .now) m w (b .row) (b .earlier) t k (omega arith)))
+          (λ a. rw (b .is, b .was) (revert-new (records s) a (s .head .now) m w (b .row) (b .earlier) (omega arith) (omega arith) l (up-to s h)));
     }
 
-pub revert-step : (s : Store) (snaps : ℕ → Snapshot) (m : ℕ) → Sound s → Reads s snaps → Stepping s (referenceOf s snaps) (revert m) (doRevert s m)
+pub revert-step : (s : Store) (snaps : ℕ → Snapshot) (m w : ℕ) → w ≤ 65535 → Sound s → Reads s snaps
+    → Stepping s (referenceOf s snaps) (revert m w) (doRevert s m w)
 unfolding doRevert feed branched
-revert-step s snaps m h r =
+revert-step s snaps m w v h r =
     case (readable s m)
     (λ e₁.
     case (leb (s .head .now) m)
@@ -297,7 +323,7 @@ revert-step s snaps m h r =
     rw (e₁, e₂, e₃, e₄)
     (record {
       inv =
-          revert-inv s snaps m h r e₁ (leb-false (s .head .now) m e₂) (leb-false open-end (s .head .now) e₃)
+          revert-inv s snaps m w v h r e₁ (leb-false (s .head .now) m e₂) (leb-false open-end (s .head .now) e₃)
           (leb-false (length (s .branchRows)) (s .head .branches) e₄) (forks (leb-false (length (s .branchRows)) (s .head .branches) e₄));
       right = λ x. refl;
       size = refl;
@@ -305,10 +331,10 @@ revert-step s snaps m h r =
     })))))
     (λ e. rw e (no 7))
   where
-    no : (n : ℕ) → Stepping s (referenceOf s snaps) (revert m) (unchanged s (suc n))
-    no n = refused-step s snaps h r n (revert m) (λ x. absurd (omega arith))
+    no : (n : ℕ) → Stepping s (referenceOf s snaps) (revert m w) (unchanged s (suc n))
+    no n = refused-step s snaps h r n (revert m w) (λ x. absurd (omega arith))
 
-    forks : s .head .branches < length (s .branchRows) → Branching s m
+    forks : s .head .branches < length (s .branchRows) → Branching s m w
     forks c =
         let z : Sizes s = h .sizes in
-        branching s m (s .head .branches - 1) (omega arith) refl (omega arith)
+        branching s m w (s .head .branches - 1) (omega arith) refl (omega arith)

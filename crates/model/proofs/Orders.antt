@@ -75,20 +75,20 @@ unfolding doMark
 mark-10 s h = rw (le-ltb (s .head .now) open-end h)
 
 -- revert: 8, 9, 10, 7
-module _ (s : Store) (m : ℕ) where
-  pub revert-8 : readable s m ≡ false → doRevert s m .answer ≡ refused 8
+module _ (s : Store) (m w : ℕ) where
+  pub revert-8 : readable s m ≡ false → doRevert s m w .answer ≡ refused 8
   unfolding doRevert
   revert-8 e = rw e
 
-  pub revert-9 : readable s m ≡ true → s .head .now ≤ m → doRevert s m .answer ≡ refused 9
+  pub revert-9 : readable s m ≡ true → s .head .now ≤ m → doRevert s m w .answer ≡ refused 9
   unfolding doRevert
   revert-9 e h = rw (e, le-leb (s .head .now) m h)
 
-  pub revert-10 : readable s m ≡ true → m < s .head .now → open-end ≤ s .head .now → doRevert s m .answer ≡ refused 10
+  pub revert-10 : readable s m ≡ true → m < s .head .now → open-end ≤ s .head .now → doRevert s m w .answer ≡ refused 10
   unfolding doRevert
   revert-10 e h t = rw (e, lt-leb (s .head .now) m h, le-leb open-end (s .head .now) t)
 
-  pub revert-7 : readable s m ≡ true → m < s .head .now → s .head .now < open-end → length (s .branchRows) ≤ s .head .branches → doRevert s m .answer ≡ refused 7
+  pub revert-7 : readable s m ≡ true → m < s .head .now → s .head .now < open-end → length (s .branchRows) ≤ s .head .branches → doRevert s m w .answer ≡ refused 7
   unfolding doRevert
   revert-7 e h t f = rw (e, lt-leb (s .head .now) m h, lt-leb open-end (s .head .now) t, le-leb (length (s .branchRows)) (s .head .branches) f)
 

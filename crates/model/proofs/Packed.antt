@@ -99,7 +99,7 @@ step-bounded : (n : ℕ) (s : Store) (q : Request) → Sound s → Bounded n s (
 unfolding step doMark doRevert branched doReclaim reclaimed
 step-bounded n s (write a page) h = write-bounded n s a page h
 step-bounded n s mark h = both (Bounded n s) (ltb (s .head .now) open-end) (λ l m. l) (λ l m. l)
-step-bounded n s (revert m) h =
+step-bounded n s (revert m w) h =
     both (Bounded n s) (readable s m)
     (both (Bounded n s) (leb (s .head .now) m) (λ l k. l)
     (both (Bounded n s) (leb open-end (s .head .now)) (λ l k. l)
@@ -159,13 +159,13 @@ step-packs : (s : Store) (q : Request) → Sound s → Packs s q (step s q)
 unfolding step doMark doRevert branched doRead doReclaim records
 step-packs s (write a page) h = write-packs s a page h
 step-packs s mark h = both (Packs s mark) (ltb (s .head .now) open-end) (still s mark _ refl (λ d. omega (arith, d))) (still s mark _ refl (λ d. omega (arith, d)))
-step-packs s (revert m) h =
-    both (Packs s (revert m)) (readable s m)
-    (both (Packs s (revert m)) (leb (s .head .now) m) (still s (revert m) _ refl (λ d. omega (arith, d)))
-    (both (Packs s (revert m)) (leb open-end (s .head .now)) (still s (revert m) _ refl (λ d. omega (arith, d)))
-    (both (Packs s (revert m)) (leb (length (s .branchRows)) (s .head .branches)) (still s (revert m) _ refl (λ d. omega (arith, d)))
-    (still s (revert m) _ refl (λ d. omega (arith, d))))))
-    (still s (revert m) _ refl (λ d. omega (arith, d)))
+step-packs s (revert m w) h =
+    both (Packs s (revert m w)) (readable s m)
+    (both (Packs s (revert m w)) (leb (s .head .now) m) (still s (revert m w) _ refl (λ d. omega (arith, d)))
+    (both (Packs s (revert m w)) (leb open-end (s .head .now)) (still s (revert m w) _ refl (λ d. omega (arith, d)))
+    (both (Packs s (revert m w)) (leb (length (s .branchRows)) (s .head .branches)) (still s (revert m w) _ refl (λ d. omega (arith, d)))
+    (still s (revert m w) _ refl (λ d. omega (arith, d))))))
+    (still s (revert m w) _ refl (λ d. omega (arith, d)))
 step-packs s (readAt a m) h =
     both (Packs s (readAt a m)) (ltb a (s .head .size))
     (both (Packs s (readAt a m)) (readable s m)

@@ -44,12 +44,12 @@ reads-name q rest w =
     rw e (w, omega arith, omega arith))
     (λ e. rw e (omega arith, omega arith))
 
-operation-reads : (o a m spare : ℕ) (rest : List ℕ) → Reads (7 + length rest) (byOperation o a m spare rest)
+operation-reads : (o a m spare : ℕ) (rest : List ℕ) → a ≤ 65535 → Reads (7 + length rest) (byOperation o a m spare rest)
 unfolding byOperation
-operation-reads o a m spare rest =
+operation-reads o a m spare rest w =
     both P (eqb o 1) (both P (eqb m 0 && eqb spare 0) (reads-write a rest) no)
     (both P (eqb o 2) (both P (eqb a 0 && (eqb m 0 && eqb spare 0)) yes no)
-    (both P (eqb o 3) (both P (eqb a 0 && eqb spare 0) yes no)
+    (both P (eqb o 3) (both P (eqb spare 0) (w, omega arith, omega arith) no)
     (both P (eqb o 4) (both P (eqb spare 0) yes no)
     (both P (eqb o 5) (both P (eqb a 0 && eqb spare 0) yes no)
     (both P (eqb o 6) (both P (eqb a 0 && eqb spare 0) (reads-name (give (record { high = highOf rest; low = lowOf rest; moment = m })) rest (high-fits rest, low-fits rest)) no)
@@ -64,8 +64,12 @@ operation-reads o a m spare rest =
     no : (11 ≤ 13) × (13 ≤ 13)
     no = (omega arith, omega arith)
 
+-- a work order has 16 bits
+address-fits : (w : ℕ) → field w 37 16 ≤ 65535
+address-fits w = let l : field w 37 16 < 65536 = mod-lt _ (omega arith) in omega arith
+
 word-reads : (w : ℕ) (rest : List ℕ) → Reads (7 + length rest) (ofWord w rest)
-word-reads w rest = operation-reads (field w 53 3) (field w 37 16) (field w 5 32) (field w 0 5) rest
+word-reads w rest = operation-reads (field w 53 3) (field w 37 16) (field w 5 32) (field w 0 5) rest (address-fits w)
 
 pub parse-reads : (input : List ℕ) → Reads (length input) (parse input)
 unfolding parse

@@ -158,7 +158,7 @@ module _ (s : Store) (m : ℕ) (h : Sound s) (l : s .head .floor ≤ m) (u : m �
   abbrev κ : Branch → Bool
   κ = isLeft s m
 
-  first : (b : Branch) → b .start ≡ 0 → κ b ≡ true
+  pub first : (b : Branch) → b .start ≡ 0 → κ b ≡ true
   first b e = →stays m (moments (names s)) (given s m) b (inl e)
 
   late : (b : Branch) → m ≤ b .end → κ b ≡ true
@@ -168,7 +168,7 @@ module _ (s : Store) (m : ℕ) (h : Sound s) (l : s .head .floor ≤ m) (u : m �
   named-row : (b : Branch) (t : ℕ) → t ∈ moments (names s) → holds b t ≡ true → κ b ≡ true
   named-row b t i e = →stays m (moments (names s)) (given s m) b (inr (inr (inl (t, i, e))))
 
-  readable-row : (b : Branch) (t : ℕ) → readableFrom s m t ≡ true → holds b t ≡ true → κ b ≡ true
+  pub readable-row : (b : Branch) (t : ℕ) → readableFrom s m t ≡ true → holds b t ≡ true → κ b ≡ true
   readable-row b t i e =
       elim (readable→ m (moments (names s)) t i) [
         | inl j ↦ let y : Holds b t = holds→ b t e in late b (omega arith)
@@ -178,7 +178,7 @@ module _ (s : Store) (m : ℕ) (h : Sound s) (l : s .head .floor ≤ m) (u : m �
   record-row : (b : Branch) (r : Record) → r ∈ given s m → holds b (r .moment) ≡ true → κ b ≡ true
   record-row b r i e = →stays m (moments (names s)) (given s m) b (inr (inr (inr (r, i, e))))
 
-  chain : Chain (s .head .floor) (newest s)
+  pub chain : Chain (s .head .floor) (newest s)
   chain = chain-of _ _ (newest s) (h .rows)
 
   kept-find : (a t : ℕ) → readableFrom s m t ≡ true → t ≤ s .head .now → find (given s m) a (leftRows κ (newest s)) t ≡ lookup s a t
@@ -189,7 +189,7 @@ module _ (s : Store) (m : ℕ) (h : Sound s) (l : s .head .floor ≤ m) (u : m �
       ∙ (find-rows κ _ first (given s m) a record-row (newest s) t chain (readable-held s h t (lower t i) j)
       ∙ firstFound-keep (isGiven s m) (records s) a (ancestry (newest s) t) (λ r d. →given a t r i j d))
 
-  newest-after : newest (after s m) ≡ leftRows κ (newest s)
+  pub newest-after : newest (after s m) ≡ leftRows κ (newest s)
   newest-after = reclaimed-newest s m (isGiven s m) κ _ chain
 
   -- reads at readable moments give what they gave

@@ -43,7 +43,7 @@ starting (b ∷ bs) d m h =
     earlier (inr i) e = i
 
 -- rows start at different moments
-same-start : (floor : ℕ) (bs : List Branch) (b d : Branch) → Chain floor bs → b ∈ bs → d ∈ bs → b .start ≡ d .start → b ≡ d
+pub same-start : (floor : ℕ) (bs : List Branch) (b d : Branch) → Chain floor bs → b ∈ bs → d ∈ bs → b .start ≡ d .start → b ≡ d
 same-start floor (c ∷ bs) b d h (inl e) (inl f) q = e ∙ sym f
 same-start floor (c ∷ bs) b d h (inl e) (inr n) q =
     let z : Below c d = earlier-below floor c bs d h n in

@@ -94,7 +94,7 @@ name-read high low rest hh hl =
 abbrev pub Sendable : Request → Type 0
 Sendable (write a page) = (a < 65536) × (length page ≡ 256)
 Sendable mark = Unit {0}
-Sendable (revert m) = m < 4294967296
+Sendable (revert m w) = (w < 65536) × (m < 4294967296)
 Sendable (readAt a m) = (a < 65536) × (m < 4294967296)
 Sendable (reclaim m) = m < 4294967296
 Sendable (give n) = (n .high < 4294967296) × (n .low < 4294967296) × (n .moment < 4294967296)
@@ -117,7 +117,7 @@ request-round (write a page) rest h =
     ap parse (append-assoc (requestHead 1 a 0 0) page rest)
     ∙ (parse-head 1 a 0 0 (page ++ rest) (omega arith) (h .0) (omega arith) (omega arith) ∙ rw (i, t, n))
 request-round mark rest h = parse-head 2 0 0 0 rest (omega arith) (omega arith) (omega arith) (omega arith)
-request-round (revert m) rest h = parse-head 3 0 m 0 rest (omega arith) (omega arith) h (omega arith)
+request-round (revert m w) rest h = parse-head 3 w m 0 rest (omega arith) (h .0) (h .1) (omega arith)
 request-round (readAt a m) rest h = parse-head 4 a m 0 rest (omega arith) (h .0) (h .1) (omega arith)
 request-round (reclaim m) rest h = parse-head 5 0 m 0 rest (omega arith) (omega arith) h (omega arith)
 request-round (give n) rest h =

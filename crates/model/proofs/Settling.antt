@@ -84,11 +84,11 @@ module _ (κ : Branch → Bool) where
   leftRows [] = []
   leftRows (b ∷ bs) = cond (κ b) (withCut b (landing κ bs (b .cut)) ∷ leftRows bs) (leftRows bs)
 
-  left-true : (b : Branch) (bs : List Branch) → κ b ≡ true → leftRows (b ∷ bs) ≡ withCut b (landing κ bs (b .cut)) ∷ leftRows bs
+  pub left-true : (b : Branch) (bs : List Branch) → κ b ≡ true → leftRows (b ∷ bs) ≡ withCut b (landing κ bs (b .cut)) ∷ leftRows bs
   unfolding leftRows
   left-true b bs k = rw k
 
-  left-false : (b : Branch) (bs : List Branch) → κ b ≡ false → leftRows (b ∷ bs) ≡ leftRows bs
+  pub left-false : (b : Branch) (bs : List Branch) → κ b ≡ false → leftRows (b ∷ bs) ≡ leftRows bs
   unfolding leftRows
   left-false b bs k = rw k
 
@@ -137,7 +137,7 @@ module _ (κ : Branch → Bool) where
       ]
 
   -- a moment of the earlier rows lands there
-  past : (floor : ℕ) (b c : Branch) (bs : List Branch) (t : ℕ) → Chain floor (b ∷ c ∷ bs) → any (λ d. holds d t) (c ∷ bs) ≡ true
+  pub past : (floor : ℕ) (b c : Branch) (bs : List Branch) (t : ℕ) → Chain floor (b ∷ c ∷ bs) → any (λ d. holds d t) (c ∷ bs) ≡ true
       → holds b (landing κ (c ∷ bs) t) ≡ false
   past floor b c bs t h e =
       let l : Link floor b c bs = h .0 in
@@ -269,6 +269,7 @@ module _ (κ : Branch → Bool) where
                         let s : ih .row .end ≡ c .end = ih .same (omega arith) in
                         omega arith;
                     parent = rw (ih .is) at (landing-held c bs (b .cut) (h .1) (l .parent));
+                    order = l .order;
                   },
                   ih .chain,
                 );

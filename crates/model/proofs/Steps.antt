@@ -30,7 +30,7 @@ step-canon : (s : Store) (snaps : ℕ → Snapshot) (q : Request) → Sound s �
 unfolding step
 step-canon s snaps (write a page) h r w = write-step s snaps a page h r w
 step-canon s snaps mark h r w = mark-step s snaps h r
-step-canon s snaps (revert m) h r w = revert-step s snaps m h r
+step-canon s snaps (revert m o) h r w = revert-step s snaps m o w h r
 step-canon s snaps (readAt a m) h r w = read-step s snaps a m h r
 step-canon s snaps (reclaim m) h r w = reclaim-step s snaps m h r
 step-canon s snaps (give n) h r w = give-step s snaps n h r
@@ -93,7 +93,7 @@ pub step-answers : (s : Store) (q : Request) → Sound s → Answers s (step s q
 unfolding step doWrite doMark doRevert doRead doReclaim
 step-answers s (write a page) h = both (Answers s) (ltb a (s .head .size)) (written-answers s a page (standing s a)) (refused-answers s 4 (omega arith))
 step-answers s mark h = both (Answers s) (ltb (s .head .now) open-end) (accepted-answers s _ _) (refused-answers s 10 (omega arith))
-step-answers s (revert m) h =
+step-answers s (revert m w) h =
     both (Answers s) (readable s m)
     (both (Answers s) (leb (s .head .now) m) (refused-answers s 9 (omega arith))
     (both (Answers s) (leb open-end (s .head .now)) (refused-answers s 10 (omega arith))

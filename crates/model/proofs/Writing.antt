@@ -122,7 +122,7 @@ find-top rs a floor now (b ∷ bs) r l h asc m ra rm =
     let e : latest rs a (b .start) now ≡ some r = latest-top rs a (b .start) now r asc m ra rm (omega arith) in
     find-hold rs a b bs now (→holds b now (omega arith) (omega arith)) ∙ ap (λ (x : Option Record). orElse x (find rs a bs (b .cut))) e
 
-newest-holds : (floor now : ℕ) (bs : List Branch) → now ≤ open-end → SoundRows floor now bs → any (λ d. holds d now) bs ≡ true
+pub newest-holds : (floor now : ℕ) (bs : List Branch) → now ≤ open-end → SoundRows floor now bs → any (λ d. holds d now) bs ≡ true
 newest-holds floor now [] l h = absurd h
 newest-holds floor now (b ∷ bs) l h =
     let o : Open now b = h .0 in

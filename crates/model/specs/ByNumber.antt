@@ -79,6 +79,7 @@ Falls (b ∷ bs) = (b .cut ≤ b .start) × Falls bs
 pub record First (b : Branch) : Type 0 where
   pub start : b .start ≡ 0
   pub cut : b .cut ≡ 0
+  pub order : b .order ≡ 0
   pub ordered : b .start ≤ b .end
 
 pub record Link (floor : ℕ) (b c : Branch) (earlier : List Branch) : Type 0 where
@@ -86,6 +87,7 @@ pub record Link (floor : ℕ) (b c : Branch) (earlier : List Branch) : Type 0 wh
   pub after : c .end < b .start
   pub follows : floor < b .start → b .start ≡ c .end + 1
   pub parent : any (λ d. holds d (b .cut)) (c ∷ earlier) ≡ true
+  pub order : b .order ≤ 65535
 
 abbrev pub Chain : ℕ → List Branch → Type 0
 Chain floor [] = ⊥
@@ -168,11 +170,11 @@ pub record Sound (s : Store) : Type 0 where
   pub named : Named (s .placeRows) 1 (records s)
   pub in-use : used (s .placeRows) ≡ s .head .records
 
--- a request as it is read: its page is whole, and the numbers of its name have 32 bits
+-- a request as it is read: its page is whole, its work order has 16 bits, and the numbers of its name have 32
 abbrev pub Whole : Request → Type 0
 Whole (write a page) = length page ≡ 256
 Whole mark = Unit {0}
-Whole (revert m) = Unit {0}
+Whole (revert m w) = w ≤ 65535
 Whole (readAt a m) = Unit {0}
 Whole (reclaim m) = Unit {0}
 Whole (give n) = (n .high < 4294967296) × (n .low < 4294967296)

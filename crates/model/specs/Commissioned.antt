@@ -15,7 +15,7 @@ use Rattle.model.specs.Demand3.{Call, after, answered}
 abbrev pub withdraws : Name → Request → Bool
 withdraws n (write a page) = false
 withdraws n mark = false
-withdraws n (revert m) = false
+withdraws n (revert m w) = false
 withdraws n (readAt a m) = false
 withdraws n (reclaim m) = false
 withdraws n (give x) = false

@@ -60,7 +60,7 @@ readAnswer m g = record { refusal = 0; value = m; page = g }
 abbrev pub Right : ℕ → Reference → Request → Answer → Type 0
 Right size p (write a page) x = x .refusal ≡ 0 → x ≡ accepted (p .now)
 Right size p mark x = x .refusal ≡ 0 → x ≡ accepted (p .now)
-Right size p (revert m) x = x .refusal ≡ 0 → x ≡ accepted (p .now)
+Right size p (revert m w) x = x .refusal ≡ 0 → x ≡ accepted (p .now)
 Right size p (readAt a m) x = a < size → Readable p m → x ≡ readAnswer m (p .snapshot m a)
 Right size p (reclaim m) x = x .refusal ≡ 0 → x ≡ accepted (length (p .held) - length (keep (isSeen p m) (p .held)))
 Right size p (give n) x = x .refusal ≡ 0 → x ≡ accepted (n .moment)
@@ -73,7 +73,7 @@ AllRight size p (e ∷ es) = Right size p (e .request) (e .answer) × AllRight s
 abbrev pub acceptedReclaim : Request → Answer → Bool
 acceptedReclaim (write a page) x = false
 acceptedReclaim mark x = false
-acceptedReclaim (revert m) x = false
+acceptedReclaim (revert m w) x = false
 acceptedReclaim (readAt a m) x = false
 acceptedReclaim (reclaim m) x = eqb (x .refusal) 0
 acceptedReclaim (give n) x = false

@@ -16,7 +16,7 @@ unfoldable pub fresh : ℕ → ℕ → ℕ → ℕ → List ℕ → Store
 fresh size branchRows recordRows placeRows slab =
     record {
       head = record { size = size; branches = 1; records = 0; now = 0; floor = 0; names = 0 };
-      branchRows = set (replicate branchRows zero-branch) 0 (record { start = 0; end = open-end; cut = 0 });
+      branchRows = set (replicate branchRows zero-branch) 0 (record { start = 0; end = open-end; cut = 0; order = 0 });
       recordRows = replicate recordRows zero-record;
       placeRows = replicate placeRows 0;
       nameRows = replicate 32 zero-name;

@@ -26,7 +26,7 @@ pub record SmallestFree (ps : List ℕ) (p : ℕ) : Type 0 where
 abbrev pub PutIn : Store → Request → Record → Type 0
 PutIn s (write a page) r = (r .address ≡ a) × (r .moment ≡ s .head .now) × SmallestFree (s .placeRows) (r .place)
 PutIn s mark r = ⊥
-PutIn s (revert m) r = ⊥
+PutIn s (revert m w) r = ⊥
 PutIn s (readAt a m) r = ⊥
 PutIn s (reclaim m) r = ⊥
 PutIn s (give n) r = ⊥

@@ -80,7 +80,7 @@ accept p mark =
       snapshot = withSnapshot (p .snapshot) (p .now + 1) (p .snapshot (p .now));
       held = p .held;
     }
-accept p (revert m) =
+accept p (revert m w) =
     record {
       now = p .now + 1;
       floor = p .floor;

@@ -36,13 +36,14 @@ unfoldable pub inRange : Store → Bool
 inRange s = lentAllowed s (s .head .size) && countsAllowed s
 
 -- the first row, then each row against those before it; rows stand newest first.
--- start at most end, above the end before it, following it by one or at most the floor; the cut inside an earlier row, the parent
+-- start at most end, above the end before it, following it by one or at most the floor; the cut inside an earlier row, the parent;
+-- a work order of 16 bits, the first row's 0
 unfoldable pub chained : ℕ → List Branch → Bool
 chained floor [] = false
-chained floor (b ∷ []) = eqb (b .start) 0 && (eqb (b .cut) 0 && leb (b .start) (b .end))
+chained floor (b ∷ []) = eqb (b .start) 0 && (eqb (b .cut) 0 && (eqb (b .order) 0 && leb (b .start) (b .end)))
 chained floor (b ∷ c ∷ earlier) =
     leb (b .start) (b .end) && (ltb (c .end) (b .start) && ((eqb (b .start) (c .end + 1) || leb (b .start) floor)
-    && (any (λ d. holds d (b .cut)) (c ∷ earlier) && chained floor (c ∷ earlier))))
+    && (any (λ d. holds d (b .cut)) (c ∷ earlier) && (leb (b .order) 65535 && chained floor (c ∷ earlier)))))
 
 -- the last row is still open, and starts at most at now
 abbrev pub openRow : ℕ → List Branch → Bool

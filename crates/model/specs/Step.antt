@@ -98,30 +98,30 @@ doMark s =
 
 -- a branch row with now sealed as its end
 abbrev pub closedAt : ℕ → Branch → Branch
-closedAt t b = record { start = b .start; end = t; cut = b .cut }
+closedAt t b = record { start = b .start; end = t; cut = b .cut; order = b .order }
 
--- the current branch ends at now; a new one starts after it, with the moment reverted to as its cut
-unfoldable pub branched : Store → ℕ → Store
-branched s m =
+-- the current branch ends at now; a new one starts after it, with the moment reverted to as its cut, and the work order
+unfoldable pub branched : Store → ℕ → ℕ → Store
+branched s m w =
     record {
       head = headWith (s .head) (s .head .branches + 1) (s .head .records) (s .head .now + 1) (s .head .floor);
       branchRows =
           set (set (s .branchRows) (s .head .branches - 1)
           (closedAt (s .head .now) (getD (s .branchRows) (s .head .branches - 1) zero-branch))) (s .head .branches)
-          (record { start = s .head .now + 1; end = open-end; cut = m });
+          (record { start = s .head .now + 1; end = open-end; cut = m; order = w });
       recordRows = s .recordRows;
       placeRows = s .placeRows;
       nameRows = s .nameRows;
       slab = s .slab;
     }
 
-unfoldable pub doRevert : Store → ℕ → Stepped
-doRevert s m =
+unfoldable pub doRevert : Store → ℕ → ℕ → Stepped
+doRevert s m w =
     cond (readable s m)
     (cond (leb (s .head .now) m) (unchanged s 9)
     (cond (leb open-end (s .head .now)) (unchanged s 10)
     (cond (leb (length (s .branchRows)) (s .head .branches)) (unchanged s 7)
-    (record { store = branched s m; answer = accepted (s .head .now) }))))
+    (record { store = branched s m w; answer = accepted (s .head .now) }))))
     (unchanged s 8)
 
 unfoldable pub doRead : Store → ℕ → ℕ → Stepped
@@ -148,9 +148,9 @@ unfoldable pub stays : ℕ → List ℕ → List Record → Branch → Bool
 stays floor named kept b =
     eqb (b .start) 0 || (leb floor (b .end) || (any (holds b) named || any (λ r. holds b (r .moment)) kept))
 
--- a branch row with another cut
+-- a branch row with another cut; its work order stays
 abbrev pub withCut : Branch → ℕ → Branch
-withCut b t = record { start = b .start; end = b .end; cut = t }
+withCut b t = record { start = b .start; end = b .end; cut = t; order = b .order }
 
 -- what a cut becomes where only branches that pass are left ("each child takes over its cut"), of branches that stand newest first:
 -- it stays where the branch that holds it does; where that one goes, its cut takes over, and so on
@@ -230,7 +230,7 @@ doWithdraw s high low = withdrawn s high low (called high low (names s))
 unfoldable pub step : Store → Request → Stepped
 step s (write a page) = doWrite s a page
 step s mark = doMark s
-step s (revert m) = doRevert s m
+step s (revert m w) = doRevert s m w
 step s (readAt a m) = doRead s a m
 step s (reclaim m) = doReclaim s m
 step s (give n) = doGive s n

@@ -17,7 +17,7 @@ abbrev pub open-end : ℕ
 open-end = 4294967295
 
 abbrev pub zero-branch : Branch
-zero-branch = record { start = 0; end = 0; cut = 0 }
+zero-branch = record { start = 0; end = 0; cut = 0; order = 0 }
 
 abbrev pub zero-record : Record
 zero-record = record { address = 0; moment = 0; place = 0 }

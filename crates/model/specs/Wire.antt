@@ -32,17 +32,17 @@ packed n (f ∷ fs) = packed (n * 2 ^ f .width + f .value) fs
 abbrev pub field : ℕ → ℕ → ℕ → ℕ
 field n below width = n / 2 ^ below % 2 ^ width
 
--- the seven requests; a name is given by the row that it gets, and withdrawn by its two numbers
+-- the seven requests; a revert is to a moment, with a work order; a name is given by the row that it gets, and withdrawn by its two numbers
 pub data Request : Type 0 where
   write : ℕ → List ℕ → Request
   mark : Request
-  revert : ℕ → Request
+  revert : ℕ → ℕ → Request
   readAt : ℕ → ℕ → Request
   reclaim : ℕ → Request
   give : Name → Request
   withdraw : ℕ → ℕ → Request
 
--- the seven bytes of a request: operation 3 bits, address 16, moment 32, spare 5
+-- the seven bytes of a request: operation 3 bits, address 16, moment 32, spare 5; a revert has its work order in place of an address
 abbrev pub requestHead : ℕ → ℕ → ℕ → ℕ → List ℕ
 requestHead operation address moment spare =
     bytes 7
@@ -58,7 +58,7 @@ nameBytes high low = bytes 8 (packed 0 (record { width = 32; value = high } ∷ 
 unfoldable pub requestBytes : Request → List ℕ
 requestBytes (write a page) = requestHead 1 a 0 0 ++ page
 requestBytes mark = requestHead 2 0 0 0
-requestBytes (revert m) = requestHead 3 0 m 0
+requestBytes (revert m w) = requestHead 3 w m 0
 requestBytes (readAt a m) = requestHead 4 a m 0
 requestBytes (reclaim m) = requestHead 5 0 m 0
 requestBytes (give n) = requestHead 6 0 (n .moment) 0 ++ nameBytes (n .high) (n .low)
@@ -90,7 +90,7 @@ unfoldable pub byOperation : ℕ → ℕ → ℕ → ℕ → List ℕ → Parsed
 byOperation o a m spare rest =
     cond (eqb o 1) (cond (eqb m 0 && eqb spare 0) (writeOf a rest) (stop 13))
     (cond (eqb o 2) (cond (eqb a 0 && (eqb m 0 && eqb spare 0)) (one mark 7) (stop 13))
-    (cond (eqb o 3) (cond (eqb a 0 && eqb spare 0) (one (revert m) 7) (stop 13))
+    (cond (eqb o 3) (cond (eqb spare 0) (one (revert m a) 7) (stop 13))
     (cond (eqb o 4) (cond (eqb spare 0) (one (readAt a m) 7) (stop 13))
     (cond (eqb o 5) (cond (eqb a 0 && eqb spare 0) (one (reclaim m) 7) (stop 13))
     (cond (eqb o 6) (cond (eqb a 0 && eqb spare 0) (namedOf (give (record { high = highOf rest; low = lowOf rest; moment = m })) rest) (stop 13))

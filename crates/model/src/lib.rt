@@ -3,10 +3,15 @@
 // The end of a branch that is still open, which is also the last moment.
 pub const OPEN_END: u32 = 4294967295;
 
+// The highest work order.
+pub const MOST_ORDER: u32 = 65535;
+
+// A branch: its first and its last moment, the moment that it was cut from, and the work order of the revert that began it.
 pub struct Branch {
     pub start: u32,
     pub end: u32,
     pub cut: u32,
+    pub order: u32,
 }
 
 pub struct Record {

@@ -37,6 +37,11 @@ three P a b c (suc zero) h = b
 three P a b c (suc (suc zero)) h = c
 three P a b c (suc (suc (suc j))) h = absurd (omega arith)
 
+-- and of each of four
+pub four : (P : ℕ → Type 0) → P 0 → P 1 → P 2 → P 3 → (j : ℕ) → j < 4 → P j
+four P a b c d zero h = a
+four P a b c d (suc j) h = three (λ k. P (suc k)) b c d j (omega arith)
+
 getD-replicate : (n i : ℕ) → getD {A = ℕ} (replicate n 0) i 0 ≡ 0
 getD-replicate zero i = refl
 getD-replicate (suc n) zero = refl
@@ -133,8 +138,8 @@ branch-kind =
       fields = branchFields;
       full = λ b. refl;
       back = λ b. refl;
-      column = λ f. three (λ j. getD (branchFields (branchOf f)) j 0 ≡ f j) refl refl refl;
-      same = λ f g h k. record { start = h 0 (omega arith) k; end = h 1 (omega arith) k; cut = h 2 (omega arith) k };
+      column = λ f. four (λ j. getD (branchFields (branchOf f)) j 0 ≡ f j) refl refl refl refl;
+      same = λ f g h k. record { start = h 0 (omega arith) k; end = h 1 (omega arith) k; cut = h 2 (omega arith) k; order = h 3 (omega arith) k };
     }
 
 -- rows of records
@@ -181,16 +186,22 @@ three-sets t p a b c e₁ e₂ e₃ =
     let e : set (set (set t p a) (p + 1) b) (p + 2) c ≡ sets t p (a ∷ b ∷ c ∷ []) = simp towards-suc in
     rw (e₃, e₂, e₁, e)
 
+-- and a fourth behind them
+four-sets : (t : List ℕ) (p a b c d : ℕ) {x y : List ℕ} → x ≡ sets t p (a ∷ b ∷ c ∷ []) → y ≡ set x (p + 3) d → y ≡ sets t p (a ∷ b ∷ c ∷ d ∷ [])
+four-sets t p a b c d e₃ e₄ =
+    let e : set (sets t p (a ∷ b ∷ c ∷ [])) (p + 3) d ≡ sets t p (a ∷ b ∷ c ∷ d ∷ []) = simp towards-suc in
+    rw (e₄, e₃, e)
+
 -- a row read and a row stored, as the code does it
 module _ (t : List ℕ) (i : ℕ) where
   pub branch-get : BranchesIn (suc i) t
       → branch (branchRowsOf t) i
-      ≡ record { start = getD t (i * branchWidth) 0; end = getD t (i * branchWidth + 1) 0; cut = getD t (i * branchWidth + 2) 0 }
+      ≡ record { start = getD t (i * branchWidth) 0; end = getD t (i * branchWidth + 1) 0; cut = getD t (i * branchWidth + 2) 0; order = getD t (i * branchWidth + 3) 0 }
   branch-get l = rows-get branch-kind t i zero-branch (omega arith) ∙ rw (add-zero (i * branchWidth))
 
-  pub branch-put : BranchesIn (suc i) t → (b : Branch) {u v x : List ℕ} → u ≡ set t (i * branchWidth) (b .start) → v ≡ set u (i * branchWidth + 1) (b .end) → x ≡ set v (i * branchWidth + 2) (b .cut)
-      → BranchSet t i b x
-  branch-put l b e₁ e₂ e₃ = rw (three-sets t (i * branchWidth) _ _ _ e₁ e₂ e₃) (row-put branch-kind t i b (omega arith))
+  pub branch-put : BranchesIn (suc i) t → (b : Branch) {u v x y : List ℕ} → u ≡ set t (i * branchWidth) (b .start) → v ≡ set u (i * branchWidth + 1) (b .end) → x ≡ set v (i * branchWidth + 2) (b .cut)
+      → y ≡ set x (i * branchWidth + 3) (b .order) → BranchSet t i b y
+  branch-put l b e₁ e₂ e₃ e₄ = rw (four-sets t (i * branchWidth) _ _ _ _ (three-sets t (i * branchWidth) _ _ _ e₁ e₂ e₃) e₄) (row-put branch-kind t i b (omega arith))
 
   pub record-get : RecordsIn (suc i) t
       → entry (recordRowsOf t) i

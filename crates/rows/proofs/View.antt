@@ -132,7 +132,7 @@ pub page-given : (s : Store) (q : Request) → step s q .answer .page ≡ foundP
 unfolding step doWrite doMark doRevert doRead doReclaim recordGiven
 page-given s (write a page) = both NoPage (ltb a (s .head .size)) (written-none s a page (standing s a)) refl
 page-given s mark = both NoPage (ltb (s .head .now) open-end) refl refl
-page-given s (revert m) =
+page-given s (revert m w) =
     both NoPage (readable s m)
     (both NoPage (leb (s .head .now) m) refl (both NoPage (leb open-end (s .head .now)) refl (both NoPage (leb (length (s .branchRows)) (s .head .branches)) refl refl))) refl
 page-given s (readAt a m) =

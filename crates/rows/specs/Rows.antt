@@ -41,15 +41,15 @@ pub record Relaid {A : Type 0} (w : ℕ) (fields : A → List ℕ) (t : List ℕ
 pub record RowSet {A : Type 0} (w : ℕ) (make : (ℕ → ℕ) → A) (fields : A → List ℕ) (t : List ℕ) (i : ℕ) (x : A) (u : List ℕ) : Type 0 where
   pub laid : Relaid w fields t (set (rowsBy w make t) i x) u
 
--- a branch row: start, end, cut
+-- a branch row: start, end, cut, work order
 abbrev pub branchWidth : ℕ
-branchWidth = 3
+branchWidth = 4
 
 abbrev pub branchOf : (ℕ → ℕ) → Branch
-branchOf f = record { start = f 0; end = f 1; cut = f 2 }
+branchOf f = record { start = f 0; end = f 1; cut = f 2; order = f 3 }
 
 abbrev pub branchFields : Branch → List ℕ
-branchFields b = b .start ∷ b .end ∷ b .cut ∷ []
+branchFields b = b .start ∷ b .end ∷ b .cut ∷ b .order ∷ []
 
 abbrev pub branchRowsOf : List ℕ → List Branch
 branchRowsOf = rowsBy branchWidth branchOf

@@ -82,7 +82,7 @@ answerOf r slab = record { refusal = r .refusal; value = r .value; page = foundP
 unfoldable pub recordGiven : Store → Request → Option Record
 recordGiven s (write a page) = none
 recordGiven s mark = none
-recordGiven s (revert m) = none
+recordGiven s (revert m w) = none
 recordGiven s (readAt a m) = cond (eqb (doRead s a m .answer .refusal) 0) (lookup s a m) none
 recordGiven s (reclaim m) = none
 recordGiven s (give n) = none

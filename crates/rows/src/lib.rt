@@ -11,7 +11,7 @@ ghost use Rattle.rows.specs.View.{refusedWith, acceptedWith};
 ghost use Rattle.rows.specs.Rows.{branchRowsOf, recordRowsOf, nameRowsOf, BranchSet, RecordSet, NameSet, BranchesIn, RecordsIn, NamesIn};
 
 // How many numbers a row has.
-pub const BRANCH_WIDTH: usize = 3;
+pub const BRANCH_WIDTH: usize = 4;
 
 pub const RECORD_WIDTH: usize = 3;
 
@@ -22,6 +22,7 @@ pub const ZERO_BRANCH: Branch = Branch {
     start: 0,
     end: 0,
     cut: 0,
+    order: 0,
 };
 
 pub const ZERO_RECORD: Record = Record {
@@ -97,6 +98,7 @@ pub fn branch_at(t: &[u32], i: usize) -> Branch
         start: t[at],
         end: t[at + 1],
         cut: t[at + 2],
+        order: t[at + 3],
     }
 }
 
@@ -140,6 +142,7 @@ pub fn set_branch(t: &mut [u32], i: usize, b: Branch)
     put(t, at, b.start);
     put(t, at + 1, b.end);
     put(t, at + 2, b.cut);
+    put(t, at + 3, b.order);
 }
 
 pub fn set_record(t: &mut [u32], i: usize, b: Record)

@@ -12,25 +12,25 @@ use Rattle.model.specs.declared.Head.{Head}
 use Rattle.model.specs.Store.{Store, newest, branches, any, open-end}
 use Rattle.model.specs.Lookup.{holds}
 use Rattle.model.specs.Soundness.{chained, openRow, branchesSound}
-use Rattle.model.specs.ByNumber.{Open, branch, newestOf, held}
+use Rattle.model.specs.ByNumber.{First, Open, branch, newestOf, held}
 use Rattle.model.proofs.Base.{same-test, and→, →and}
 use Rattle.rows.specs.Rows.{branchRowsOf, BranchesIn}
 use Rattle.rows.specs.View.{Tables, storeOf}
 use Rattle.rows.proofs.Laws.{branch-count}
-use Rattle.holding.proofs.Chain.{Passes, top-row, link→, →link}
+use Rattle.holding.proofs.Chain.{Passes, first→, passes-at, top-row, link→, →link}
 
 -- the row i, which is not the first, against those before it
 module _ (floor : ℕ) (rows : List Branch) (i : ℕ) (pos : 0 < i) (room : i < length rows) where
   -- where a row passes the other tests, what is left is that its cut lies inside an earlier row
   pub linked-is : Passes floor rows i → (r : Bool) (x : ℕ) → x ≡ branch rows i .cut → r ≡ held rows i x
       → branch rows i .start ≤ branch rows i .end → branch rows (i - 1) .end < branch rows i .start
-      → (floor < branch rows i .start → branch rows i .start ≡ branch rows (i - 1) .end + 1)
+      → (floor < branch rows i .start → branch rows i .start ≡ branch rows (i - 1) .end + 1) → branch rows i .order ≤ 65535
       → r ≡ chained floor (newestOf rows (suc i))
   unfolding held
-  linked-is h r x c e o a f =
+  linked-is h r x c e o a f w =
       let q : r ≡ any (λ d. holds d (branch rows i .cut)) (branch rows (i - 1) ∷ newestOf rows (i - 1)) =
       e ∙ ap (λ (y : ℕ). any (λ d. holds d y) (newestOf rows i)) c ∙ ap (λ (l : List Branch). any (λ d. holds d (branch rows i .cut)) l) (top-row rows i pos (omega arith)) in
-      same-test r _ (λ z. →link floor rows i pos room h (record { ordered = o; after = a; follows = f; parent = sym q ∙ z })) (λ z. q ∙ link→ floor rows i pos room z .parent)
+      same-test r _ (λ z. →link floor rows i pos room h (record { ordered = o; after = a; follows = f; parent = sym q ∙ z; order = w })) (λ z. q ∙ link→ floor rows i pos room z .parent)
 
 -- check 2 of a store, by the number of its rows
 module _ (head : Head) (t : Tables) (pos : 1 ≤ head .branches) (room : BranchesIn (head .branches) (t .branches)) where
@@ -46,6 +46,12 @@ module _ (head : Head) (t : Tables) (pos : 1 ≤ head .branches) (room : Branche
   pub sound-passes : branchesSound S ≡ true → Passes (head .floor) (branchRowsOf (t .branches)) (head .branches)
   unfolding branchesSound newest branches
   sound-passes e = and→ (openRow (head .now) (newest S)) (chained (head .floor) (newest S)) e .1
+
+  pub sound-first : branchesSound S ≡ true → First (branch (branchRowsOf (t .branches)) 0)
+  sound-first e =
+      let l : head .branches ≤ length (branchRowsOf (t .branches)) = omega (arith, branch-count (t .branches)) in
+      first→ (head .floor) (branchRowsOf (t .branches)) (omega arith)
+      (passes-at (head .floor) (branchRowsOf (t .branches)) (head .branches) 1 l (sound-passes e) (omega arith) pos)
 
   pub sound-open : branchesSound S ≡ true → Open (head .now) last
   unfolding branchesSound newest branches

@@ -51,7 +51,7 @@ module _ (head : Head) (t : Tables) where
       check-three n = rw (both .0, both .1, b, n)
 
   -- what is lent and passes the checks is whole rows and sound; now is a number of 32 bits
-  passed : checkOf head t ≡ 0 → (wholeTables t ≡ true) × (tableCheck S ≡ 0)
+  pub passed : checkOf head t ≡ 0 → (wholeTables t ≡ true) × (tableCheck S ≡ 0)
   unfolding checkOf
   passed e =
       case (wholeTables t)

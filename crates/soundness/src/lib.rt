@@ -1,5 +1,6 @@
 // The table checks 1, 2 and 3.
 use model::Head;
+use model::MOST_ORDER;
 use model::OPEN_END;
 use record_check::Finding;
 use rows::BRANCH_WIDTH;
@@ -34,6 +35,9 @@ fn linked(bt: &[u32], i: usize, floor: u32) -> bool
             return false;
         }
     }
+    if MOST_ORDER < b.order {
+        return false;
+    }
     holding::held_in(bt, i, floor, b.cut)
 }
 
@@ -48,6 +52,9 @@ fn branches_sound(head: Head, bt: &[u32]) -> bool
         return false;
     }
     if first.cut != 0 {
+        return false;
+    }
+    if first.order != 0 {
         return false;
     }
     let mut i: usize = 1;

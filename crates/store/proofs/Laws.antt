@@ -5,14 +5,15 @@ use mathlib.Core.Bool.{Bool, true, false}
 use Prim.Native.Nat.{ℕ, suc, _+_, _-_, _≤_, _<_}
 use native.Mathlib.Omega.{arith}
 use lib.Dec.{leb}
-use borrow.Author.Tests.{lt-ltb, le-ltb, le-leb, lt-leb, leb-false}
+use borrow.Author.Tests.{lt-ltb, le-ltb, le-leb, lt-leb}
 use lib.ListN.{length, take}
 use Rattle.model.specs.declared.Branch.{Branch}
 use Rattle.model.specs.declared.Head.{Head}
 use Rattle.model.specs.Store.{Store, branches, newest, records, open-end}
 use Rattle.model.specs.Lookup.{readable, lookup}
-use Rattle.model.specs.Step.{Stepped, unchanged, headWith, doMark, doRevert, branched, closedAt, doRead, step}
-use Rattle.model.specs.Wire.{mark, revert, readAt, accepted}
+use Rattle.model.specs.Step.{unchanged, headWith, doMark, doRevert, branched, closedAt, doRead, step}
+use Rattle.model.specs.Wire.{mark, revert, readAt}
+use Rattle.model.proofs.Moves.{Taken, revert-taken}
 use Rattle.model.proofs.Base.{case}
 use Rattle.model.specs.ByNumber.{branch, find, Sound, newestOf}
 use Rattle.model.proofs.Writing.{rows-falls}
@@ -24,9 +25,6 @@ use Rattle.rows.proofs.Laws.{branch-kind, record-kind, name-kind, record-count,
 use Rattle.rows.proofs.Relaid.{laid-own, own-then, set-length, set-rows, set-own}
 use Rattle.rows.proofs.View.{within-own, carried}
 use Rattle.store.specs.Asked.{Revertible, Readable}
-
-not-zero : (n : ℕ) → suc n ≡ 0 → ⊥
-not-zero n e = omega (arith, e)
 
 -- mark
 module _ (head : Head) (r : Outcome) where
@@ -40,8 +38,8 @@ module _ (head : Head) (r : Outcome) where
   mark-done e h t = carried head t mark (rw (e, lt-ltb _ _ h)) (rw e) (within-own t)
 
 -- revert: what a refusal says of the step
-module _ (s : Store) (m : ℕ) where
-  revert-refused : (doRevert s m .answer .refusal ≡ 0 → ⊥) → unchanged s (doRevert s m .answer .refusal) ≡ doRevert s m
+module _ (s : Store) (m w : ℕ) where
+  revert-refused : (doRevert s m w .answer .refusal ≡ 0 → ⊥) → unchanged s (doRevert s m w .answer .refusal) ≡ doRevert s m w
   unfolding doRevert
   revert-refused ne =
       case (readable s m)
@@ -53,25 +51,6 @@ module _ (s : Store) (m : ℕ) where
       case (leb (length (s .branchRows)) (s .head .branches)) (λ h. rw (e, f, g, h)) (λ h. absurd (ne (rw (e, f, g, h)))))))
       (λ e. rw e)
 
-  -- an accepted revert: now can grow, and a branch row is free
-  record Free : Type 0 where
-    later : s .head .now < open-end
-    room : s .head .branches < length (s .branchRows)
-    stepped : _≡_ {A = Stepped} (record { store = branched s m; answer = accepted (s .head .now) }) (doRevert s m)
-
-  revert-free : doRevert s m .answer .refusal ≡ 0 → Free
-  unfolding doRevert
-  revert-free z =
-      case (readable s m)
-      (λ e.
-      case (leb (s .head .now) m) (λ f. absurd (not-zero 8 (rw (e, f) at z)))
-      (λ f.
-      case (leb open-end (s .head .now)) (λ g. absurd (not-zero 9 (rw (e, f, g) at z)))
-      (λ g.
-      case (leb (length (s .branchRows)) (s .head .branches)) (λ h. absurd (not-zero 6 (rw (e, f, g, h) at z)))
-      (λ h. record { later = leb-false _ _ g; room = leb-false _ _ h; stepped = rw (e, f, g, h) }))))
-      (λ e. absurd (not-zero 7 (rw e at z)))
-
 -- with these names the moment m can be read or not, whatever the other tables are
 abbrev pub Tells : Head → List ℕ → ℕ → Bool → Type 0
 Tells head nt m b = (t : Tables) → readable (storeOf head (withNames nt t)) m ≡ b
@@ -79,30 +58,30 @@ Tells head nt m b = (t : Tables) → readable (storeOf head (withNames nt t)) m 
 -- the refusals in their order
 module _ (head : Head) (rows : ℕ) (nt : List ℕ) (m : ℕ) where
   abbrev pub Refuses : ℕ → Type 0
-  Refuses n = (t : Tables) → length (branchRowsOf (t .branches)) ≡ rows → n ≡ doRevert (storeOf head (withNames nt t)) m .answer .refusal
+  Refuses n = (t : Tables) (w : ℕ) → length (branchRowsOf (t .branches)) ≡ rows → n ≡ doRevert (storeOf head (withNames nt t)) m w .answer .refusal
 
   pub revert-below : Tells head nt m false → Refuses 8
   unfolding doRevert
-  revert-below f t l = rw (f t)
+  revert-below f t w l = rw (f t)
 
   module _ (f : Tells head nt m true) where
     pub revert-above : head .now ≤ m → Refuses 9
     unfolding doRevert
-    revert-above n t l = rw (f t, le-leb _ _ n)
+    revert-above n t w l = rw (f t, le-leb _ _ n)
 
     module _ (n : m < head .now) where
       pub revert-late : open-end ≤ head .now → Refuses 10
       unfolding doRevert
-      revert-late o t l = rw (f t, lt-leb _ _ n, le-leb _ _ o)
+      revert-late o t w l = rw (f t, lt-leb _ _ n, le-leb _ _ o)
 
       module _ (o : head .now < open-end) where
         pub revert-full : rows ≤ head .branches → Refuses 7
         unfolding doRevert
-        revert-full h t l = rw (l, f t, lt-leb _ _ n, lt-leb _ _ o, le-leb _ _ h)
+        revert-full h t w l = rw (l, f t, lt-leb _ _ n, lt-leb _ _ o, le-leb _ _ h)
 
         pub revert-none : head .branches < rows → Refuses 0
         unfolding doRevert
-        revert-none h t l = rw (l, f t, lt-leb _ _ n, lt-leb _ _ o, lt-leb _ _ h)
+        revert-none h t w l = rw (l, f t, lt-leb _ _ n, lt-leb _ _ o, lt-leb _ _ h)
 
 -- now can grow, and a branch row is free
 pub record Growing (head : Head) (bt : List ℕ) : Type 0 where
@@ -110,40 +89,40 @@ pub record Growing (head : Head) (bt : List ℕ) : Type 0 where
   pub room : head .branches < length (branchRowsOf bt)
 
 -- the code's revert, by the refusal that it was told
-module _ (head : Head) (bt nt : List ℕ) (m x rows : ℕ) (l : rows ≡ length (branchRowsOf bt)) (told : Refuses head rows nt m x) where
+module _ (head : Head) (bt nt : List ℕ) (m w x rows : ℕ) (l : rows ≡ length (branchRowsOf bt)) (told : Refuses head rows nt m x) where
   abbrev lent : Tables → Tables
   lent t = withNames nt (withBranches bt t)
 
   abbrev S : Tables → Store
   S t = storeOf head (lent t)
 
-  refusal : (t : Tables) → x ≡ doRevert (S t) m .answer .refusal
-  refusal t = told (withBranches bt t) (sym l)
+  refusal : (t : Tables) → x ≡ doRevert (S t) m w .answer .refusal
+  refusal t = told (withBranches bt t) w (sym l)
 
-  pub revert-kept : (r : Outcome) → r ≡ refusedWith head x → (x ≡ 0 → ⊥) → (t : Tables) → Carried head (lent t) (revert m) r (lent t)
+  pub revert-kept : (r : Outcome) → r ≡ refusedWith head x → (x ≡ 0 → ⊥) → (t : Tables) → Carried head (lent t) (revert m w) r (lent t)
   unfolding step recordGiven
   revert-kept r e ne t =
-      let q : x ≡ doRevert (S t) m .answer .refusal = refusal t in
-      carried head (lent t) (revert m) (rw (e, q) (revert-refused (S t) m (λ z. ne (q ∙ z)))) (rw e) (within-own (lent t))
+      let q : x ≡ doRevert (S t) m w .answer .refusal = refusal t in
+      carried head (lent t) (revert m w) (rw (e, q) (revert-refused (S t) m w (λ z. ne (q ∙ z)))) (rw e) (within-own (lent t))
 
   module _ (z : x ≡ 0) where
-    free : (t : Tables) → Free (S t) m
-    free t = revert-free (S t) m (sym (refusal t) ∙ z)
+    free : (t : Tables) → Taken (S t) m w
+    free t = revert-taken (S t) m w (sym (refusal t) ∙ z)
 
     pub revert-grows : Growing head bt
     revert-grows =
-        let f : Free (S (tables [] [] [] [] [])) m = free (tables [] [] [] [] []) in
+        let f : Taken (S (tables [] [] [] [] [])) m w = free (tables [] [] [] [] []) in
         record { later = f .later; room = f .room }
 
     pub revert-done : (r : Outcome) (u v : List ℕ) (b : Branch)
         → r ≡ acceptedWith (headWith head (head .branches + 1) (head .records) (head .now + 1) (head .floor)) (head .now)
         → b ≡ branch (branchRowsOf bt) (head .branches - 1)
         → BranchSet bt (head .branches - 1) (closedAt (head .now) b) u
-        → BranchSet u (head .branches) (record { start = head .now + 1; end = open-end; cut = m }) v
-        → (t : Tables) → Carried head (lent t) (revert m) r (withNames nt (withBranches v t))
+        → BranchSet u (head .branches) (record { start = head .now + 1; end = open-end; cut = m; order = w }) v
+        → (t : Tables) → Carried head (lent t) (revert m w) r (withNames nt (withBranches v t))
     unfolding step branched recordGiven
     revert-done r u v b e eb eu ev t =
-        carried head (lent t) (revert m) (rw (e, set-rows branch-kind ev, set-rows branch-kind eu, eb) (free t .stepped)) (rw e)
+        carried head (lent t) (revert m w) (rw (e, set-rows branch-kind ev, set-rows branch-kind eu, eb) (free t .stepped)) (rw e)
         (record {
           branches = own-then branch-kind (set-own branch-kind eu) (set-length branch-kind eu) (set-own branch-kind ev);
           records = laid-own record-kind (t .records);

@@ -4,6 +4,7 @@ use model::Head;
 use model::OPEN_END;
 use rows::Outcome;
 ghost use mathlib.Core.Path.{_≡_};
+ghost use Prim.Native.Nat.{ℕ};
 ghost use lib.ListN.{length};
 ghost use Rattle.model.specs.Wire.{mark, revert, readAt};
 ghost use Rattle.model.specs.Step.{doRevert};
@@ -34,7 +35,7 @@ pub fn mark(head: Head) -> Outcome
 // The refusal of a revert to a moment, over a branch table of so many rows; 0 where there is none.
 pub fn revert_refusal(head: Head, rows: usize, nt: &[u32], to: u32) -> u32
     requires { ⌜ NamesIn (head .names) (now nt) ⌝ }
-    ensures { λ r. ⌜ ((t : Tables) → length (branchRowsOf (t .branches)) ≡ rows → r ≡ doRevert (storeOf head (withNames (now (nt .entry)) t)) to .answer .refusal) ⌝ }
+    ensures { λ r. ⌜ ((t : Tables) (w : ℕ) → length (branchRowsOf (t .branches)) ≡ rows → r ≡ doRevert (storeOf head (withNames (now (nt .entry)) t)) to w .answer .refusal) ⌝ }
 {
     let below = !naming::readable(head, nt, to);
     let above = head.now <= to;
@@ -55,10 +56,10 @@ pub fn revert_refusal(head: Head, rows: usize, nt: &[u32], to: u32) -> u32
     0
 }
 
-// Seals now as the end of the current branch; a new branch starts after it, with the moment m as its cut.
-pub fn revert(head: Head, bt: &mut [u32], nt: &[u32], m: u32) -> Outcome
+// Seals now as the end of the current branch; a new branch starts after it, with the moment m as its cut, and the work order w.
+pub fn revert(head: Head, bt: &mut [u32], nt: &[u32], m: u32, w: u32) -> Outcome
     requires { ⌜ Revertible head (now bt) (now nt) ⌝ }
-    ensures { λ r. ⌜ ((t : Tables) → Carried head (withNames (now (nt .entry)) (withBranches (now (bt .entry)) t)) (revert m) r (withNames (now (nt .entry)) (withBranches (now (bt .exit)) t))) ⌝ }
+    ensures { λ r. ⌜ ((t : Tables) → Carried head (withNames (now (nt .entry)) (withBranches (now (bt .entry)) t)) (revert m w) r (withNames (now (nt .entry)) (withBranches (now (bt .exit)) t))) ⌝ }
 {
     let refusal = revert_refusal(head, rows::branch_rows(bt), nt, m);
     if refusal != 0 {
@@ -72,12 +73,14 @@ pub fn revert(head: Head, bt: &mut [u32], nt: &[u32], m: u32) -> Outcome
         start: b.start,
         end: sealed,
         cut: b.cut,
+        order: b.order,
     };
     rows::set_branch(bt, n - 1, closed);
     let opened = Branch {
         start: next,
         end: OPEN_END,
         cut: m,
+        order: w,
     };
     rows::set_branch(bt, n, opened);
     let after = Head {

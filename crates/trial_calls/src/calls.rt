@@ -4,6 +4,7 @@ use crate::copies::copy;
 use crate::copies::copy_bytes;
 use crate::copies::differing;
 use crate::copies::differing_bytes;
+use crate::copies::note_list;
 use crate::copies::note_read;
 use batch::Batched;
 use fresh::Made;
@@ -12,6 +13,8 @@ use model::Head;
 use trial_faults::faults;
 use trial_words::layout::ANSWERS;
 use trial_words::layout::AREA;
+use trial_words::layout::ASKED;
+use trial_words::layout::ASKS;
 use trial_words::layout::BRANCH_LENGTH;
 use trial_words::layout::BRANCH_TABLE;
 use trial_words::layout::BUDGET;
@@ -23,6 +26,7 @@ use trial_words::layout::HEAD;
 use trial_words::layout::HEAD_FLOOR;
 use trial_words::layout::INPUT;
 use trial_words::layout::INPUT_BYTES;
+use trial_words::layout::LIST_COUNT;
 use trial_words::layout::MARK_LENGTH;
 use trial_words::layout::MARK_TABLE;
 use trial_words::layout::NAME_LENGTH;
@@ -87,6 +91,16 @@ fn table(w: &[u32], at: u32) -> [u32; 64]
 {
     let mut t = [0u32; 64];
     let start = at_most(at, w.len());
+    copy(&w[start..], &mut t);
+    t
+}
+
+// The branch table, with room for rows more.
+fn branch_table(w: &[u32]) -> [u32; 84]
+    ensures { λ r. ⌜ length r ≡ 84 ⌝ }
+{
+    let mut t = [0u32; 84];
+    let start = at_most(BRANCH_TABLE, w.len());
     copy(&w[start..], &mut t);
     t
 }
@@ -161,7 +175,7 @@ fn save(w: &mut [u32], at: u32, t: &[u32]) -> u32 {
     touched
 }
 
-fn save_tables(w: &mut Numbers, bt: &[u32; 64], rt: &[u32; 64], pt: &[u32; 64], nt: &[u32; 99]) {
+fn save_tables(w: &mut Numbers, bt: &[u32; 84], rt: &[u32; 64], pt: &[u32; 64], nt: &[u32; 99]) {
     let branches = save(w, BRANCH_TABLE, bt);
     let records = save(w, RECORD_TABLE, rt);
     let places = save(w, PLACE_TABLE, pt);
@@ -281,7 +295,7 @@ fn batch_on(
 fn ask_on(
     w: &mut Numbers,
     b: &mut Bytes,
-    bt: &mut [u32; 64],
+    bt: &mut [u32; 84],
     rt: &mut [u32; 64],
     pt: &mut [u32; 64],
     nt: &mut [u32; 99],
@@ -318,7 +332,7 @@ fn save_bytes(w: &mut Numbers, b: &mut Bytes, slab: &[u8; 4352], answers: &[u8; 
 fn ask_with(
     w: &mut Numbers,
     b: &mut Bytes,
-    bt: &mut [u32; 64],
+    bt: &mut [u32; 84],
     rt: &mut [u32; 64],
     pt: &mut [u32; 64],
     nt: &mut [u32; 99],
@@ -334,7 +348,7 @@ fn ask_with(
 pub fn ask(w: &mut Numbers, b: &mut Bytes) -> u32
     ensures { λ r. ⌜ r ≡ getD (now (w .exit)) 6 0 ⌝ }
 {
-    let mut bt = table(w, BRANCH_TABLE);
+    let mut bt = branch_table(w);
     let mut rt = table(w, RECORD_TABLE);
     let mut pt = table(w, PLACE_TABLE);
     let mut nt = name_table(w);
@@ -470,7 +484,7 @@ fn look_on(
 fn look_with(
     w: &mut Numbers,
     b: &mut Bytes,
-    bt: &[u32; 64],
+    bt: &[u32; 84],
     rt: &[u32; 64],
     pt: &[u32; 64],
     nt: &[u32; 99],
@@ -503,12 +517,132 @@ fn look_with(
 pub fn look(w: &mut Numbers, b: &mut Bytes) -> u32
     ensures { λ r. ⌜ r ≡ getD (now (w .exit)) 485 0 ⌝ }
 {
-    let bt = table(w, BRANCH_TABLE);
+    let bt = branch_table(w);
     let rt = table(w, RECORD_TABLE);
     let pt = table(w, PLACE_TABLE);
     let nt = name_table(w);
     look_with(w, b, &bt, &rt, &pt, &nt);
     number_at(w, COPIED)
+}
+
+// A list of work orders at a moment, of at most so many bytes. Its refusal and its count go behind it.
+fn list_one(
+    h: Head,
+    bt: &[u32],
+    rt: &[u32],
+    pt: &[u32],
+    nt: &[u32],
+    slab: &[u8],
+    moment: u32,
+    bytes: u32,
+    area: &mut [u8],
+) {
+    let l = at_most(bytes % 49, area.len());
+    let r = listing::list_orders(h, bt, rt, pt, nt, slab, moment, &mut area[..l]);
+    note_list(r.refusal, number(r.count), area);
+}
+
+fn list_next(
+    h: Head,
+    bt: &[u32],
+    rt: &[u32],
+    pt: &[u32],
+    nt: &[u32],
+    slab: &[u8],
+    w: &Numbers,
+    k: u32,
+    area: &mut [u8],
+) {
+    let at = ASKS + k % 48 * 2;
+    let start = at_most(k % 48 * 80, area.len());
+    list_one(
+        h,
+        bt,
+        rt,
+        pt,
+        nt,
+        slab,
+        get(w, at),
+        get(w, plus(at, 1)),
+        &mut area[start..],
+    );
+}
+
+// The first n of the lists asked for.
+fn list_all(
+    h: Head,
+    bt: &[u32],
+    rt: &[u32],
+    pt: &[u32],
+    nt: &[u32],
+    slab: &[u8],
+    w: &Numbers,
+    n: u32,
+    area: &mut [u8],
+) {
+    for k in 0..n {
+        list_next(h, bt, rt, pt, nt, slab, w, k, area);
+    }
+}
+
+// Lists on parts of what is lent.
+fn list_on(
+    l: Lengths,
+    bt: &[u32],
+    rt: &[u32],
+    pt: &[u32],
+    nt: &[u32],
+    slab: &[u8],
+    w: &Numbers,
+    area: &mut [u8],
+) {
+    let lb = at_most(l.branches, bt.len());
+    let bs = &bt[..lb];
+    let lr = at_most(l.records, rt.len());
+    let rs = &rt[..lr];
+    let lp = at_most(l.places, pt.len());
+    let ps = &pt[..lp];
+    let ln = at_most(l.names, nt.len());
+    let ns = &nt[..ln];
+    let ls = at_most(l.slab, slab.len());
+    list_all(head(w), bs, rs, ps, ns, &slab[..ls], w, get(w, ASKED), area);
+}
+
+// The lists of work orders asked for, and what they gave. Answers how many.
+pub fn list(w: &Numbers, b: &mut Bytes) -> u32
+    ensures { λ r. ⌜ r ≡ getD (now (w .entry)) 639 0 ⌝ }
+{
+    let bt = branch_table(w);
+    let rt = table(w, RECORD_TABLE);
+    let pt = table(w, PLACE_TABLE);
+    let nt = name_table(w);
+    let slab = slab_bytes(b);
+    let mut area = blank_area();
+    list_on(lent_lengths(w), &bt, &rt, &pt, &nt, &slab, w, &mut area);
+    save_answers(b, &area);
+    number_at(w, ASKED)
+}
+
+// A list of work orders at a moment on tables that the caller holds. Answers how many orders it has; 0 where it is refused.
+pub fn list_over(
+    w: &mut Numbers,
+    bt: &[u32],
+    rt: &[u32],
+    pt: &[u32],
+    nt: &[u32],
+    slab: &[u8],
+    moment: u32,
+    list: &mut [u8],
+) -> u32
+    ensures { λ r. ⌜ r ≡ getD (now (w .exit)) 429 0 ⌝ }
+{
+    let r = listing::list_orders(head(w), bt, rt, pt, nt, slab, moment, list);
+    put(
+        w,
+        LIST_COUNT,
+        if r.refusal == 0 { number(r.count) } else { 0 },
+    );
+    number_at(w, LIST_COUNT)
 }
 
 // A fresh store over parts of what is lent.
@@ -559,7 +693,7 @@ pub fn make_over(
 pub fn make(w: &mut Numbers, b: &Bytes) -> u32
     ensures { λ r. ⌜ r ≡ getD (now (w .exit)) 6 0 ⌝ }
 {
-    let mut bt = table(w, BRANCH_TABLE);
+    let mut bt = branch_table(w);
     let mut rt = table(w, RECORD_TABLE);
     let mut pt = table(w, PLACE_TABLE);
     let mut nt = name_table(w);

@@ -77,3 +77,17 @@ pub(crate) fn note_read(page: &[u8], refusal: u32, area: &mut [u8]) {
         };
     }
 }
+
+fn put_in(area: &mut [u8], i: usize, n: u32) {
+    if i < area.len() {
+        area[i] = (n % 256) as u8;
+    }
+}
+
+// What a list of work orders gave besides its bytes: its refusal, and its count in two bytes, 65,535 where it is more.
+pub(crate) fn note_list(refusal: u32, count: u32, area: &mut [u8]) {
+    let n: u32 = if count < 65535 { count } else { 65535 };
+    put_in(area, 72, refusal);
+    put_in(area, 73, n / 256);
+    put_in(area, 74, n);
+}

@@ -30,7 +30,7 @@ ghost use mathlib.Core.Path.{_≡_};
 ghost use lib.ListN.{getD};
 
 fn branch_numbers(w: &Numbers) -> u32 {
-    get(w, BRANCH_ROWS) % 4096 * 3
+    get(w, BRANCH_ROWS) % 4096 * 4
 }
 
 fn record_numbers(w: &Numbers) -> u32 {
@@ -105,23 +105,44 @@ fn disk_place(i: u32) -> u32 {
     }
 }
 
-fn value(now: u32, old: u32, v: u32) -> u32 {
+fn value(now: u32, old: u32, row: u32, v: u32) -> u32 {
     match v {
         0 => plus(old, 1),
         1 => minus(old, 1),
         2 => 0,
         3 => 1,
-        4 => plus(old, 3),
+        4 => plus(old, row),
         5 => now,
         6 => plus(now, 1),
         _ => LAST,
     }
 }
 
+// Whether the number at a place is a work order.
+fn is_order(at: u32) -> bool {
+    if at < BRANCH_TABLE {
+        return false;
+    }
+    if at < PLACE_TABLE { at % 4 == 3 } else { false }
+}
+
+// A work order takes 65,535 in place of now, and 65,536 in place of now+1. The length of the branch rows takes a row of four numbers more,
+// any other number three more.
+fn new_value(w: &Numbers, at: u32, old: u32, v: u32) -> u32 {
+    let now: u32 = if is_order(at) {
+        65535
+    } else {
+        get(w, HEAD_NOW)
+    };
+    let row: u32 = if at == BRANCH_LENGTH { 4 } else { 3 };
+    value(now, old, row, v)
+}
+
 // A length is at most that of what can be lent, and a mark is half a byte's range, so that 128 can be added.
 fn limited(at: u32, n: u32) -> u32 {
     match at {
-        10..=12 => n % 65,
+        10 => n % 85,
+        11 | 12 => n % 65,
         13 => n % 100,
         14 => n % 4353,
         480 => n % 1281,
@@ -134,7 +155,7 @@ fn limited(at: u32, n: u32) -> u32 {
 fn replace(w: &mut Numbers, change: u32) {
     let at = place_of(w, change / 8);
     let old = get(w, at);
-    let new = value(get(w, HEAD_NOW), old, change % 8);
+    let new = new_value(w, at, old, change % 8);
     put(w, REPLACED, old);
     put(w, at, limited(at, new));
 }

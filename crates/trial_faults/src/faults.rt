@@ -1,7 +1,8 @@
 // Faults put into what the store gave, so that the comparison is seen to find them: one to a list, and taken out after it.
 // A number or a byte is not what the store gave, two records or two names stand in each other's row, a page stands in another free place,
-// or the branch rows or the marks of the live disk are those of another rule.
+// or the branch rows, the marks of the live disk or the lists of work orders are those of another rule.
 use crate::live;
+use crate::orders;
 use crate::rows;
 use trial_words::layout::ANSWERS;
 use trial_words::layout::AREA;
@@ -23,6 +24,7 @@ use trial_words::layout::LIVE_REFUSED;
 use trial_words::layout::MOST_NAMES;
 use trial_words::layout::NAME_TABLE;
 use trial_words::layout::Numbers;
+use trial_words::layout::ORDERS;
 use trial_words::layout::PAGE_ANSWER;
 use trial_words::layout::PLACE_ROWS;
 use trial_words::layout::PLACE_TABLE;
@@ -50,7 +52,8 @@ ghost use lib.ListN.{getD};
 
 // The faults are numbered from 1, as the program `trials` names them.
 // Where a fault can stand: an index of the table of numbers; BYTES and an index of the table of bytes; two records in each other's row;
-// a record in another free place; two names in each other's row; branch rows and the live disk, as the modules for them number them.
+// a record in another free place; two names in each other's row; branch rows, the live disk and the lists of work orders, as the modules for
+// them number them.
 pub(crate) const BYTES: u32 = 65536;
 
 const SWAPPED: u32 = 131072;
@@ -83,6 +86,9 @@ fn spot(w: &Numbers, b: &Bytes, fault: u32) -> u32 {
     if turn == FRESH {
         return in_fresh(fault);
     }
+    if turn >= ORDERS {
+        return orders::spot(w, b, fault, turn == ORDERS);
+    }
     if turn >= LIVE {
         return live::spot(w, b, fault, turn == LIVE);
     }
@@ -103,6 +109,9 @@ fn in_batch(w: &Numbers, b: &Bytes, fault: u32) -> u32 {
         50..=56 => in_reclaim(w, b, fault, listed(w, 0).operation),
         57 => ROWS_READ,
         60..=67 => live::in_batch(w, b, fault, listed(w, 0)),
+        92 => plus(BRANCH_TABLE, 3),
+        93 | 94 => in_revert(w, b, fault, listed(w, 0).operation),
+        95 => in_reclaim(w, b, fault, listed(w, 0).operation),
         _ => NOWHERE,
     }
 }
@@ -148,6 +157,18 @@ fn in_reclaim(w: &Numbers, b: &Bytes, fault: u32, operation: u32) -> u32 {
     }
     if byte(b, ANSWERS) == 0 {
         rows::spot(w, fault)
+    } else {
+        NOWHERE
+    }
+}
+
+// The branch rows after an accepted revert.
+fn in_revert(w: &Numbers, b: &Bytes, fault: u32, operation: u32) -> u32 {
+    if operation != 3 {
+        return NOWHERE;
+    }
+    if byte(b, ANSWERS) == 0 {
+        rows::in_revert(w, fault, get(w, HEAD_BRANCHES))
     } else {
         NOWHERE
     }
@@ -220,8 +241,9 @@ fn in_fresh(fault: u32) -> u32 {
         32 => plus(BRANCH_TABLE, 1),
         33 => RECORD_TABLE,
         34 => PLACE_TABLE,
-        35 => plus(BRANCH_TABLE, 3),
+        35 => plus(BRANCH_TABLE, 4),
         48 => NAME_TABLE,
+        96 => plus(BRANCH_TABLE, 3),
         _ => NOWHERE,
     }
 }
@@ -272,7 +294,7 @@ fn swap_names(w: &mut Numbers) {
     swap(w, NAME_TABLE + 2, NAME_TABLE + 5);
 }
 
-fn swap_byte(b: &mut Bytes, i: u32, j: u32) {
+pub(crate) fn swap_byte(b: &mut Bytes, i: u32, j: u32) {
     let x = byte(b, i);
     let y = byte(b, j);
     put_byte(b, i, y);
@@ -319,6 +341,10 @@ fn shift(w: &mut Numbers, b: &mut Bytes, at: u32, by: u32) {
     }
     if live::is_spot(at) {
         live::swap(w, b, at);
+        return;
+    }
+    if orders::is_spot(at) {
+        orders::shift(w, b, at, by == 1);
         return;
     }
     if at < MOVED + 256 {

@@ -2,4 +2,5 @@
 pub mod changes;
 pub mod faults;
 pub mod live;
+mod orders;
 pub mod rows;

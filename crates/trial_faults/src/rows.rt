@@ -1,4 +1,5 @@
-// Faults in what a reclaim leaves of the branch rows: a row gone that stays, a cut that is not taken over, or no row gone.
+// Faults in what a reclaim leaves of the branch rows: a row gone that stays, a cut that is not taken over, a work order that is, or no row
+// gone; and in the work orders that a revert leaves.
 use crate::faults::NOWHERE;
 use trial_words::layout::BRANCH_TABLE;
 use trial_words::layout::COUNT_BEFORE;
@@ -25,15 +26,21 @@ use trial_words::words::put;
 ghost use mathlib.Core.Path.{_≡_};
 ghost use lib.ListN.{getD};
 
-// Where a fault can stand: a row gone; a cut as it was, or taken over once; all rows as they were.
+// Where a fault can stand: a row gone; a cut as it was, or taken over once; all rows as they were; a row with another work order.
 const GONE: u32 = 132096;
 
 const RECUT: u32 = 132128;
 
 const AS_BEFORE: u32 = 132160;
 
+const REORDERED: u32 = 132192;
+
 pub(crate) fn is_spot(at: u32) -> bool {
-    if at < GONE { false } else { at <= AS_BEFORE }
+    if at < GONE {
+        false
+    } else {
+        at < REORDERED + 32
+    }
 }
 
 // The branch rows before a batch are noted. Answers their count.
@@ -55,6 +62,7 @@ pub(crate) fn spot(w: &Numbers, fault: u32) -> u32 {
         52 => kept_for(w, 2, n),
         53 => kept_for(w, 1, n),
         54 | 55 => taken_over(w, fault, n),
+        95 => order_taken_over(w, n),
         _ => if n < get(w, COUNT_BEFORE) {
             AS_BEFORE
         } else {
@@ -161,6 +169,59 @@ fn cut_before(w: &Numbers, moment: u32) -> u32 {
     0
 }
 
+fn order_at(k: u32) -> u32 {
+    plus(row_at(BRANCH_TABLE, k), 3)
+}
+
+// The first row with a cut that was taken over, where its work order would be another if that were taken over with it.
+fn order_taken_over(w: &Numbers, n: u32) -> u32 {
+    for k in 0..n {
+        if other_order(w, 95, k) != get(w, order_at(k)) {
+            return plus(REORDERED, k);
+        }
+    }
+    NOWHERE
+}
+
+// The work order that a fault puts into the k-th row: 0; that of the row behind it; or, where its cut was taken over, that of the row which
+// held its cut before.
+pub(crate) fn other_order(w: &Numbers, fault: u32, k: u32) -> u32 {
+    match fault {
+        93 => 0,
+        94 => get(w, order_at(plus(k, 1))),
+        _ => order_with_cut(w, k),
+    }
+}
+
+fn order_with_cut(w: &Numbers, k: u32) -> u32 {
+    let before = cut_before(w, get(w, row_at(BRANCH_TABLE, k)));
+    if before == get(w, cut_at(k)) {
+        get(w, order_at(k))
+    } else {
+        order_before(w, before)
+    }
+}
+
+// The work order, before the batch, of the row that held a moment.
+fn order_before(w: &Numbers, moment: u32) -> u32 {
+    for k in 0..get(w, COUNT_BEFORE) {
+        if holds(w, row_at(ROWS_BEFORE, k), moment) {
+            return get(w, plus(row_at(ROWS_BEFORE, k), 3));
+        }
+    }
+    0
+}
+
+// The last of n rows, which an accepted revert made, without its work order; or the row before it with that.
+pub(crate) fn in_revert(w: &Numbers, fault: u32, n: u32) -> u32 {
+    let k = minus(n, minus(fault, 92));
+    if other_order(w, fault, k) == get(w, order_at(k)) {
+        NOWHERE
+    } else {
+        plus(REORDERED, k)
+    }
+}
+
 // The rows that the store gave are noted, and the fault is put in; or they stand again.
 pub(crate) fn shift(w: &mut Numbers, at: u32, put_in: bool) {
     if put_in {
@@ -185,6 +246,12 @@ fn change(w: &mut Numbers, at: u32) {
         put(w, HEAD_BRANCHES, minus(n, 1));
         return;
     }
-    let k = minus(at, RECUT);
-    put(w, cut_at(k), other_cut(w, get(w, FAULT), k));
+    let fault = get(w, FAULT);
+    if at < REORDERED {
+        let k = minus(at, RECUT);
+        put(w, cut_at(k), other_cut(w, fault, k));
+    } else {
+        let k = minus(at, REORDERED);
+        put(w, order_at(k), other_order(w, fault, k));
+    }
 }

@@ -36,6 +36,9 @@ pub(crate) fn due(w: &Numbers) -> u32 {
     if branches_wrong(w, get(w, HEAD_BRANCHES)) != 0 {
         return 2;
     }
+    if orders_wrong(w, get(w, HEAD_BRANCHES)) != 0 {
+        return 2;
+    }
     if names_wrong(w, get(w, HEAD_NAMES)) != 0 {
         return 2;
     }
@@ -85,20 +88,23 @@ fn between(n: u32, least: u32, most: u32) -> bool {
     if n < least { false } else { n <= most }
 }
 
-fn whole_rows(length: u32, most: u32) -> bool {
-    if length % 3 == 0 {
-        between(length / 3, 1, most)
+// One row to so many, and no number besides.
+fn whole_rows(rows: u32, rest: u32, most: u32) -> bool {
+    if rest == 0 {
+        between(rows, 1, most)
     } else {
         false
     }
 }
 
 fn lengths_right(w: &Numbers) -> bool {
+    let branches = get(w, BRANCH_LENGTH);
+    let records = get(w, RECORD_LENGTH);
     let places = get(w, PLACE_LENGTH);
-    if !whole_rows(get(w, BRANCH_LENGTH), 4096) {
+    if !whole_rows(branches / 4, branches % 4, 4096) {
         return false;
     }
-    if !whole_rows(get(w, RECORD_LENGTH), 65536) {
+    if !whole_rows(records / 3, records % 3, 65536) {
         return false;
     }
     if !between(places, 1, 65536) {
@@ -114,7 +120,7 @@ fn head_right(w: &Numbers) -> bool {
     if !between(get(w, HEAD), 1, 65536) {
         return false;
     }
-    if !between(get(w, HEAD_BRANCHES), 1, get(w, BRANCH_LENGTH) / 3) {
+    if !between(get(w, HEAD_BRANCHES), 1, get(w, BRANCH_LENGTH) / 4) {
         return false;
     }
     if get(w, HEAD_RECORDS) > get(w, RECORD_LENGTH) / 3 {
@@ -177,6 +183,49 @@ fn later_wrong(w: &Numbers, i: u32, start: u32, cut: u32) -> u32 {
     if holders(w, i, cut) == 0 { 1 } else { 0 }
 }
 
+// How many of n branch rows have a wrong work order.
+fn orders_wrong(w: &Numbers, n: u32) -> u32 {
+    let mut wrong: u32 = 0;
+    for i in 0..n {
+        wrong = plus(wrong, work_order_wrong(w, i));
+    }
+    wrong
+}
+
+// The first row has the work order 0, and no row more than 65,535.
+fn work_order_wrong(w: &Numbers, i: u32) -> u32 {
+    let order = order_of(w, i);
+    if i == 0 {
+        return order;
+    }
+    if order > 65535 { 1 } else { 0 }
+}
+
+pub(crate) fn order_of(w: &Numbers, i: u32) -> u32 {
+    get(w, plus(branch_row(i), 3))
+}
+
+// Where 2 is due: whether it is for a work order only, and then 1 where it is the first row's, 2 where it is another's.
+pub(crate) fn refused_order(w: &Numbers) -> u32 {
+    if branches_wrong(w, get(w, HEAD_BRANCHES)) != 0 {
+        return 0;
+    }
+    if names_wrong(w, get(w, HEAD_NAMES)) != 0 {
+        return 0;
+    }
+    if work_order_wrong(w, 0) == 0 { 2 } else { 1 }
+}
+
+// Whether a row past the count has a work order above 65,535.
+pub(crate) fn order_past(w: &Numbers) -> bool {
+    for i in get(w, HEAD_BRANCHES)..get(w, BRANCH_LENGTH) / 4 {
+        if order_of(w, i) > 65535 {
+            return true;
+        }
+    }
+    false
+}
+
 // How many of the first n rows hold a moment.
 fn holders(w: &Numbers, n: u32, moment: u32) -> u32 {
     let mut count: u32 = 0;
@@ -186,7 +235,7 @@ fn holders(w: &Numbers, n: u32, moment: u32) -> u32 {
     count
 }
 
-fn holds(w: &Numbers, i: u32, moment: u32) -> u32 {
+pub(crate) fn holds(w: &Numbers, i: u32, moment: u32) -> u32 {
     if moment < get(w, branch_row(i)) {
         return 0;
     }
@@ -326,7 +375,7 @@ pub(crate) fn in_use(w: &Numbers, at: u32, n: u32) -> u32 {
     count
 }
 
-// The i-th row of the branch table, and of the record table.
-fn branch_row(i: u32) -> u32 {
-    BRANCH_TABLE + i % 65536 * 3
+// The i-th row of the branch table.
+pub(crate) fn branch_row(i: u32) -> u32 {
+    BRANCH_TABLE + i % 65536 * 4
 }

@@ -25,6 +25,8 @@ use trial_words::layout::NAME_ROWS;
 use trial_words::layout::NAME_TABLE;
 use trial_words::layout::NAMES;
 use trial_words::layout::Numbers;
+use trial_words::layout::ORDER_PAST;
+use trial_words::layout::ORDER_REFUSED;
 use trial_words::layout::PAGE_ANSWER;
 use trial_words::layout::PLACE_LENGTH;
 use trial_words::layout::PLACE_TABLE;
@@ -74,6 +76,9 @@ fn spare_set(r: Request) -> bool {
     }
     if r.operation == 1 {
         return r.moment != 0;
+    }
+    if r.operation == 3 {
+        return false;
     }
     if r.operation == 4 {
         return false;
@@ -322,6 +327,7 @@ pub fn expect_stop(w: &mut Numbers) -> u32
     let due = checks::due(w);
     put_four(w, DUE, due, 0, 0, 0);
     expect_rows(w, due);
+    count_orders(w, due);
     hand_in(w, due != 0);
     keep_head(w);
     number_at(w, DUE)
@@ -347,6 +353,22 @@ fn count_broken(w: &mut Numbers, rows: u32) {
     if checks::broken_behind(w, rows) {
         add(w, BROKEN_BEHIND, 1);
     }
+}
+
+// It is counted where a work order is what 2 refuses, and where one that would be refused stands past the count.
+fn count_orders(w: &mut Numbers, due: u32) {
+    if due == 2 {
+        let row = checks::refused_order(w);
+        add(w, plus(ORDER_REFUSED, minus(row, 1)), one_where(row != 0));
+    }
+    if due == 0 {
+        let past = checks::order_past(w);
+        add(w, ORDER_PAST, one_where(past));
+    }
+}
+
+fn one_where(yes: bool) -> u32 {
+    if yes { 1 } else { 0 }
 }
 
 fn hand_in(w: &mut Numbers, all: bool) {

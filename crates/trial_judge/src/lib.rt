@@ -2,3 +2,4 @@
 mod checks;
 pub mod judge;
 pub mod live;
+pub mod orders;

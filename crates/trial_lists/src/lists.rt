@@ -1,17 +1,26 @@
-// The lists of requests: every short one over an alphabet, and long ones from a generator.
+// The lists of requests: every short one over an alphabet, and long ones from a generator; and the lists of work orders to ask for.
 use trial_words::layout::AREA;
+use trial_words::layout::ASKED;
+use trial_words::layout::ASKS;
 use trial_words::layout::BUDGET;
 use trial_words::layout::BUDGET_SEED;
 use trial_words::layout::CALLED;
 use trial_words::layout::COUNT;
 use trial_words::layout::CUT;
 use trial_words::layout::FIRST;
+use trial_words::layout::FLOOR;
+use trial_words::layout::HEAD_FLOOR;
+use trial_words::layout::HEAD_NOW;
 use trial_words::layout::LAST;
 use trial_words::layout::LENGTH;
+use trial_words::layout::LIST_COUNT;
 use trial_words::layout::MODE;
+use trial_words::layout::NAME_TABLE;
 use trial_words::layout::NAMES;
+use trial_words::layout::NOW;
 use trial_words::layout::NUMBER;
 use trial_words::layout::Numbers;
+use trial_words::layout::ORDER_SEED;
 use trial_words::layout::PAGE_ANSWER;
 use trial_words::layout::SEED;
 use trial_words::layout::SIZE;
@@ -23,9 +32,10 @@ use trial_words::words::minus;
 use trial_words::words::number_at;
 use trial_words::words::plus;
 use trial_words::words::put;
+use trial_words::words::put_two;
 use trial_words::words::remainder;
 ghost use mathlib.Core.Path.{_≡_};
-ghost use Prim.Native.Nat.{_%_};
+ghost use Prim.Native.Nat.{_+_, _%_, _^_};
 ghost use lib.ListN.{length, getD};
 
 // The letters of the alphabets: the first 7, 10 or 18, or 5 from the 18th on; of those that name moments, the first 7 or all 10 from the
@@ -79,6 +89,40 @@ fn naming_letter(k: u32) -> Request {
     }
 }
 
+// A request is listed; a revert gets a work order.
+fn put_ordered(w: &mut Numbers, k: u32, r: Request) {
+    let address: u32 = if r.operation == 3 {
+        drawn_order(w)
+    } else {
+        r.address
+    };
+    put_request(
+        w,
+        k,
+        Request {
+            operation: r.operation,
+            address,
+            moment: r.moment,
+            value: r.value,
+            spare: r.spare,
+        },
+    );
+}
+
+// One of 0, 1, 255, 256 and 65,535, or any of 16 bits.
+fn drawn_order(w: &mut Numbers) -> u32 {
+    let kind = draw(w, ORDER_SEED, 8);
+    let any = draw(w, ORDER_SEED, 65536);
+    match kind {
+        0 => 0,
+        1 => 1,
+        2 => 255,
+        3 => 256,
+        4 => 65535,
+        _ => any,
+    }
+}
+
 // The k-th letter of the list.
 fn letter_at(k: u32) -> u32 {
     96 + k % 16
@@ -97,7 +141,7 @@ pub fn spell(w: &mut Numbers, number: u32, letters: u32)
 
 fn put_letter(w: &mut Numbers, k: u32, from: u32) {
     let l = plus(get(w, FIRST), get(w, letter_at(from)));
-    put_request(w, k, letter(l));
+    put_ordered(w, k, letter(l));
 }
 
 fn put_letters(w: &mut Numbers, n: u32) {
@@ -174,7 +218,7 @@ fn list_drawn(w: &mut Numbers) {
 // One request of an operator who sets back.
 fn list_back(w: &mut Numbers) {
     let r = drawn_back(w);
-    put_request(w, 0, r);
+    put_ordered(w, 0, r);
     put(w, COUNT, 1);
     put(w, AREA, PAGE_ANSWER);
     put(w, CUT, 0);
@@ -215,7 +259,7 @@ fn draw_area(w: &mut Numbers, whole: u32) {
 
 fn draw_request(w: &mut Numbers, k: u32) {
     let r = drawn(w);
-    put_request(w, k, r);
+    put_ordered(w, k, r);
 }
 
 fn draw_requests(w: &mut Numbers, n: u32) {
@@ -341,6 +385,81 @@ pub fn list_step(w: &mut Numbers) -> u32
     let n = draw(w, BUDGET_SEED, 6);
     put(w, BUDGET, if n == 5 { LAST } else { n });
     number_at(w, BUDGET)
+}
+
+// How many moments lists are asked for: the one below the floor, the one above now, and each readable one, from the floor to now and then
+// the named ones.
+pub fn moments(w: &Numbers) -> u32
+    ensures { λ r. ⌜ (r + getD (now (w .entry)) 22 0) % 2 ^ 32 ≡ ((getD (now (w .entry)) 21 0 + getD (now (w .entry)) 26 0) % 2 ^ 32 + 3) % 2 ^ 32 ⌝ }
+{
+    let last = plus(number_at(w, NOW), number_at(w, NAMES));
+    minus(plus(last, 3), number_at(w, FLOOR))
+}
+
+fn moment_asked(w: &Numbers, j: u32) -> u32 {
+    if j == 0 {
+        return minus(trial_reference::floor(w), 1);
+    }
+    if j == 1 {
+        return plus(trial_reference::now(w), 1);
+    }
+    trial_reference::moment_read(w, plus(get(w, FLOOR), minus(j, 2)))
+}
+
+// Lists of work orders, from the j-th of the moments on, of 16 at most. Answers how many lists.
+pub fn list_orders(w: &mut Numbers, from: u32) -> u32
+    ensures { λ r. ⌜ r ≡ getD (now (w .exit)) 639 0 ⌝ }
+{
+    put(w, ASKED, 0);
+    ask_each(w, from, moments(w));
+    number_at(w, ASKED)
+}
+
+fn ask_each(w: &mut Numbers, from: u32, n: u32) {
+    for k in 0..16u32 {
+        if plus(from, k) < n {
+            ask_at(w, moment_asked(w, plus(from, k)));
+        }
+    }
+}
+
+// At a moment: a list that fits exactly, one with a byte less, and one with one to eight bytes more; at one that is refused only the last.
+fn ask_at(w: &mut Numbers, moment: u32) {
+    let due = trial_reference::orders::expect(w, moment);
+    let fits = get(w, LIST_COUNT) % 32 * 2;
+    let more = draw(w, ORDER_SEED, 8);
+    if due == 0 {
+        ask(w, moment, fits);
+        ask(w, moment, minus(fits, 1));
+    }
+    ask(w, moment, plus(plus(fits, more), 1));
+}
+
+// One list more, of at most so many bytes.
+fn ask(w: &mut Numbers, moment: u32, bytes: u32) {
+    let n = get(w, ASKED);
+    put_two(w, ASKS + n % 48 * 2, moment, bytes);
+    put(w, ASKED, plus(n, 1));
+}
+
+// Lists on a changed store: at the moments of its head, at the one above now, at 0 and at that of its first name. Answers how many.
+pub fn list_changed(w: &mut Numbers) -> u32
+    ensures { λ r. ⌜ r ≡ getD (now (w .exit)) 639 0 ⌝ }
+{
+    let now = get(w, HEAD_NOW);
+    put(w, ASKED, 0);
+    ask_some(w, now);
+    ask_some(w, get(w, HEAD_FLOOR));
+    ask_some(w, plus(now, 1));
+    ask_some(w, 0);
+    ask_some(w, get(w, NAME_TABLE + 2));
+    number_at(w, ASKED)
+}
+
+// A list of any bytes up to 39.
+fn ask_some(w: &mut Numbers, moment: u32) {
+    let bytes = draw(w, ORDER_SEED, 40);
+    ask(w, moment, bytes);
 }
 
 fn quotient(a: u32, b: u32) -> u32 {

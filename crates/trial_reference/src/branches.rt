@@ -1,4 +1,5 @@
-// The branch rows of the reference, as document 02 has them: a reclaim takes out one row after another, and each child takes over its cut.
+// The branch rows of the reference, as document 02 has them: a revert's work order goes into the row that it makes; a reclaim takes out one
+// row after another, and each child takes over its cut and keeps its own work order.
 use crate::floor;
 use crate::index;
 use crate::names;
@@ -26,18 +27,19 @@ pub(crate) fn begin(w: &mut Numbers)
     ensures { λ _. ⌜ length (now (w .exit)) ≡ length (now (w .entry)) ⌝ }
 {
     for k in 0..21u32 {
-        rows::put_row(w, rows::row_at(ROWS, k), 0, 0, 0);
+        rows::put_row(w, rows::row_at(ROWS, k), 0, 0, 0, 0);
     }
-    rows::put_row(w, ROWS, 0, LAST, 0);
+    rows::put_row(w, ROWS, 0, LAST, 0, 0);
     put(w, BRANCHES, 1);
 }
 
-// The last branch ends with the moment sealed; a new one is open from the next on, cut at a moment.
-pub(crate) fn make(w: &mut Numbers, sealed: u32, cut: u32) {
+// The last branch ends with the moment sealed; a new one is open from the next on, cut at a moment, with a work order.
+pub(crate) fn make(w: &mut Numbers, sealed: u32, cut: u32, order: u32) {
     let n = get(w, BRANCHES);
     let last = rows::row_at(ROWS, minus(n, 1));
     put(w, plus(last, 1), sealed);
-    rows::put_row(w, rows::row_at(ROWS, n), plus(sealed, 1), LAST, cut);
+    let row = rows::row_at(ROWS, n);
+    rows::put_row(w, row, plus(sealed, 1), LAST, cut, order);
     put(w, BRANCHES, plus(n, 1));
 }
 

@@ -1,9 +1,10 @@
 // The reference: a complete snapshot of the volume for each moment, the held pairs, now, floor and the names; plain, and slow on purpose.
-// Beside them it keeps the branch rows, the place of each held pair, and the live disk. Readable are the moments from the floor to now and
-// the named ones.
+// Beside them it keeps the branch rows, the way of each moment to the first branch, the place of each held pair, and the live disk. Readable
+// are the moments from the floor to now and the named ones.
 pub mod branches;
 pub mod live;
 pub mod names;
+pub mod orders;
 pub mod places;
 
 use trial_words::layout::BASE;
@@ -77,6 +78,7 @@ pub fn reset(w: &mut Numbers)
     places::free_all(w);
     names::forget_all(w);
     branches::begin(w);
+    orders::begin(w);
     live::begin(w);
     clear_row(w, 0);
 }
@@ -138,11 +140,13 @@ fn write(w: &mut Numbers, a: u32, value: u32) -> u32 {
 }
 
 fn mark(w: &mut Numbers) -> u32 {
+    orders::go_on(w);
     advance(w, get(w, NOW))
 }
 
-fn revert(w: &mut Numbers, from: u32, moment: u32) -> u32 {
-    branches::make(w, now(w), moment);
+fn revert(w: &mut Numbers, from: u32, moment: u32, order: u32) -> u32 {
+    branches::make(w, now(w), moment, order);
+    orders::branch_off(w, from, order);
     live::set_back(w);
     advance(w, from)
 }
@@ -236,7 +240,7 @@ pub fn feed(w: &mut Numbers, r: Request) -> u32
     match operation {
         1 => write(w, r.address, r.value),
         2 => mark(w),
-        3 => revert(w, i, r.moment),
+        3 => revert(w, i, r.moment, r.address),
         4 => r.moment,
         5 => reclaim(w, i),
         _ => feed_name(w, operation, r.value, r.moment),
@@ -301,6 +305,16 @@ fn write_refusal(w: &Numbers, a: u32) -> u32
         6
     } else {
         0
+    }
+}
+
+// The moment of a snapshot; past now those that are named.
+pub fn moment_read(w: &Numbers, i: u32) -> u32 {
+    let last = get(w, NOW);
+    if i > last {
+        names::moment_of(w, minus(i, plus(last, 1)))
+    } else {
+        plus(get(w, BASE), i)
     }
 }
 

@@ -1,5 +1,5 @@
-// The turns of a family of lists: a fresh store, or a batch, or live reads and a copying step, with the comparison after them. What the
-// next turn does is one of the numbers.
+// The turns of a family of lists: a fresh store, or a batch, or live reads and a copying step, or lists of work orders, with the comparison
+// after them. What the next turn does is one of the numbers.
 use trial_calls::calls;
 use trial_faults::changes;
 use trial_faults::faults;
@@ -7,6 +7,7 @@ use trial_faults::live;
 use trial_faults::rows;
 use trial_judge::judge;
 use trial_judge::live as judge_live;
+use trial_judge::orders as judge_orders;
 use trial_lists::encoding;
 use trial_lists::lists;
 use trial_words::layout::BASE;
@@ -30,6 +31,8 @@ use trial_words::layout::NAMES;
 use trial_words::layout::NOW;
 use trial_words::layout::NUMBER;
 use trial_words::layout::Numbers;
+use trial_words::layout::ORDERS;
+use trial_words::layout::ORDERS_CHANGED;
 use trial_words::layout::PLAY;
 use trial_words::layout::READ;
 use trial_words::layout::READ_BACK;
@@ -39,7 +42,6 @@ use trial_words::layout::TURN;
 use trial_words::layout::WRONG;
 use trial_words::words::add;
 use trial_words::words::get;
-use trial_words::words::minus;
 use trial_words::words::number_at;
 use trial_words::words::plus;
 use trial_words::words::put;
@@ -78,6 +80,10 @@ fn take_turn(w: &mut Numbers, b: &mut Bytes) {
         begin(w, b);
         return;
     }
+    if turn >= ORDERS {
+        list(w, b, turn == ORDERS);
+        return;
+    }
     if turn >= LIVE {
         look(w, b, turn == LIVE);
         return;
@@ -99,7 +105,7 @@ fn look(w: &mut Numbers, b: &mut Bytes, sound: bool) {
     if sound {
         next_batch(w, plus(get(w, BATCH), 1));
     } else {
-        end_change(w);
+        put(w, TURN, ORDERS_CHANGED);
     }
 }
 
@@ -108,6 +114,44 @@ fn compare_look(w: &mut Numbers, b: &Bytes, sound: bool) {
         judge_live::judge(w, b);
     } else {
         judge_live::judge_refused(w, b);
+    }
+}
+
+// Lists of work orders, on the store after a batch or on a changed one.
+fn list(w: &mut Numbers, b: &mut Bytes, sound: bool) {
+    ask_lists(w, sound);
+    calls::list(w, b);
+    faults::put_in(w, b);
+    compare_lists(w, b, sound);
+    faults::take_out(w, b);
+    if sound {
+        next_lists(w, plus(get(w, SNAPSHOT), 16));
+    } else {
+        end_change(w);
+    }
+}
+
+fn ask_lists(w: &mut Numbers, sound: bool) {
+    if sound {
+        lists::list_orders(w, get(w, SNAPSHOT));
+    } else {
+        lists::list_changed(w);
+    }
+}
+
+fn compare_lists(w: &mut Numbers, b: &Bytes, sound: bool) {
+    if sound {
+        judge_orders::judge(w, b);
+    } else {
+        judge_orders::judge_changed(w, b);
+    }
+}
+
+fn next_lists(w: &mut Numbers, j: u32) {
+    if goes_on(w, j, lists::moments(w)) {
+        put(w, SNAPSHOT, j);
+    } else {
+        put(w, TURN, LIVE);
     }
 }
 
@@ -154,19 +198,9 @@ fn prepare(w: &mut Numbers, turn: u32) {
 
 // A read of every address at the moment of the snapshot.
 fn list_moment(w: &mut Numbers) {
-    let moment = moment_read(w, get(w, SNAPSHOT));
+    let moment = trial_reference::moment_read(w, get(w, SNAPSHOT));
     add(w, READ, 1);
     lists::list_reads(w, moment);
-}
-
-// The moment of a snapshot; past now those that are named.
-fn moment_read(w: &Numbers, i: u32) -> u32 {
-    let now = get(w, NOW);
-    if i > now {
-        trial_reference::names::moment_of(w, minus(i, plus(now, 1)))
-    } else {
-        plus(get(w, BASE), i)
-    }
 }
 
 fn judge_turn(w: &mut Numbers, b: &mut Bytes, turn: u32) {
@@ -188,8 +222,9 @@ fn compare(w: &mut Numbers, b: &Bytes, turn: u32) {
     }
 }
 
-// After each batch of the list every readable snapshot is read back, from the floor to now and then the named ones; then every page is read
-// live, and a copying step is made. After the last the changes are tried. Where the list has had its fault, nothing more of it is tried.
+// After each batch of the list every readable snapshot is read back, from the floor to now and then the named ones; then the work orders of
+// each are listed, every page is read live, and a copying step is made. After the last the changes are tried. Where the list has had its
+// fault, nothing more of it is tried.
 fn advance(w: &mut Numbers, turn: u32) {
     if turn == PLAY {
         add(w, BATCHES, 1);
@@ -202,11 +237,15 @@ fn advance(w: &mut Numbers, turn: u32) {
         return;
     }
     add(w, BATCHES, 1);
-    if get(w, DUE) == 0 {
-        end_change(w);
-    } else {
-        put(w, TURN, LIVE_REFUSED);
-    }
+    put(
+        w,
+        TURN,
+        if get(w, DUE) == 0 {
+            ORDERS_CHANGED
+        } else {
+            LIVE_REFUSED
+        },
+    );
 }
 
 fn end_change(w: &mut Numbers) {
@@ -224,7 +263,8 @@ fn next_snapshot(w: &mut Numbers, i: u32) {
     if goes_on(w, i, plus(get(w, NOW), get(w, NAMES))) {
         put(w, SNAPSHOT, plus(i, 1));
     } else {
-        put(w, TURN, LIVE);
+        put(w, TURN, ORDERS);
+        put(w, SNAPSHOT, 0);
     }
 }
 

@@ -1,5 +1,6 @@
 // An operator who sets back weekly into the branch of the week before, for a hundred years, with a reclaim every four weeks.
-// The week k begins at the moment 2k. A page is written in seven weeks of eight; then a mark, another page for a trial, and a revert to 2k.
+// The week k begins at the moment 2k. A page is written in seven weeks of eight; then a mark, another page for a trial, and a revert to 2k,
+// with a work order of its own.
 pub mod ways;
 
 use trial_calls::calls;
@@ -17,6 +18,9 @@ use trial_words::layout::DISK_LENGTH;
 use trial_words::layout::HEAD_BRANCHES;
 use trial_words::layout::HEAD_RECORDS;
 use trial_words::layout::LARGEST;
+use trial_words::layout::LIST_COUNT;
+use trial_words::layout::LISTED;
+use trial_words::layout::LONGEST;
 use trial_words::layout::NAME_NUMBERS;
 use trial_words::layout::Numbers;
 use trial_words::layout::PAGE_ANSWER;
@@ -49,7 +53,7 @@ pub const WEEKS: u32 = 5218;
 pub const BRANCH_ROWS: u32 = 4096;
 
 // What is lent to the store.
-type BranchTable = [u32; 12288];
+type BranchTable = [u32; 16384];
 
 type RecordTable = [u32; 1536];
 
@@ -59,10 +63,10 @@ type NameTable = [u32; 96];
 
 type Slab = [u8; 131072];
 
-fn branch_table() -> [u32; 12288]
-    ensures { λ r. ⌜ length r ≡ 12288 ⌝ }
+fn branch_table() -> [u32; 16384]
+    ensures { λ r. ⌜ length r ≡ 16384 ⌝ }
 {
-    [0u32; 12288]
+    [0u32; 16384]
 }
 
 fn record_table() -> [u32; 1536]
@@ -95,10 +99,19 @@ fn bytes() -> [u8; 12288]
     [0u8; 12288]
 }
 
+// Room for 128 work orders.
+type List = [u8; 256];
+
+fn list_bytes() -> [u8; 256]
+    ensures { λ r. ⌜ length r ≡ 256 ⌝ }
+{
+    [0u8; 256]
+}
+
 // Eight pages, 4096 branch rows, 512 record rows and places.
 fn set_sizes(w: &mut Numbers) {
     put_four(w, SIZE, 8, BRANCH_ROWS, 512, 512);
-    put_four(w, BRANCH_LENGTH, 12288, 1536, 512, NAME_NUMBERS);
+    put_four(w, BRANCH_LENGTH, 16384, 1536, 512, NAME_NUMBERS);
     put(w, SLAB_LENGTH, 131072);
     put_two(w, DISK_LENGTH, 2048, 8);
 }
@@ -153,7 +166,7 @@ fn week(
     }
 }
 
-// A reclaim to the beginning of an earlier week; then what is read there and now is compared.
+// A reclaim to the beginning of an earlier week; then what is read there and now is compared, and the lists of work orders.
 fn month(
     w: &mut Numbers,
     b: &mut Bytes,
@@ -174,11 +187,80 @@ fn month(
     lists::list_reads(w, begins(plus(k, 1)));
     hand_in(w, b, bt, rt, pt, nt, slab);
     judge_reads(w, b, k, begins(plus(k, 1)));
+    judge_list(w, bt, rt, pt, nt, slab, begins(earlier));
+    judge_list(w, bt, rt, pt, nt, slab, begins(plus(k, 1)));
+}
+
+// The list of work orders at a moment. Each branch of the run is cut from the one before it: on the way are all that have begun by then.
+fn judge_list(
+    w: &mut Numbers,
+    bt: &BranchTable,
+    rt: &RecordTable,
+    pt: &PlaceTable,
+    nt: &NameTable,
+    slab: &Slab,
+    moment: u32,
+) {
+    let mut list = list_bytes();
+    calls::list_over(w, bt, rt, pt, nt, slab, moment, &mut list);
+    let rows = begun(bt, get(w, HEAD_BRANCHES), moment);
+    put(w, COUNT, rows);
+    same(w, LIST_COUNT, COUNT);
+    judge_orders(w, bt, &list, rows);
+    add(w, LISTED, 1);
+    if rows > get(w, LONGEST) {
+        put(w, LONGEST, rows);
+    }
+}
+
+fn start_of(bt: &BranchTable, k: u32) -> u32 {
+    let i = (k % 4096 * 4) as usize;
+    bt[i]
+}
+
+// How many of n branches have begun by a moment.
+fn begun(bt: &BranchTable, n: u32, moment: u32) -> u32 {
+    let mut rows: u32 = 0;
+    for k in 0..n {
+        rows = plus(rows, one_where(start_of(bt, k) <= moment));
+    }
+    rows
+}
+
+fn wide(b: u8) -> u32 {
+    b as u32
+}
+
+// The i-th work order of a list.
+fn order_in(list: &List, i: u32) -> u32 {
+    let k = (i % 128 * 2) as usize;
+    let high = wide(list[k]);
+    let low = wide(list[k + 1]);
+    plus(high % 256 * 256, low)
+}
+
+fn judge_orders(w: &mut Numbers, bt: &BranchTable, list: &List, rows: u32) {
+    for i in 0..rows {
+        let start = start_of(bt, minus(rows, plus(i, 1)));
+        let due: u32 = if start == 0 {
+            0
+        } else {
+            work_order(minus(start / 2, 1))
+        };
+        if order_in(list, i) != due {
+            add(w, WRONG, 1);
+        }
+    }
 }
 
 // The moment that a week begins with.
 fn begins(k: u32) -> u32 {
     k % 65536 * 2
+}
+
+// The work order of a week's revert: another for each.
+fn work_order(k: u32) -> u32 {
+    (k % 65536 * 40503 + 7) % 65536
 }
 
 // The week's page is the one of its number; the eighth page is written every ten years or so.
@@ -195,7 +277,7 @@ fn list_week(w: &mut Numbers, k: u32, n: u32) {
     put_request(w, 0, plain(1, k % 8, 0, k % 256));
     put_request(w, n, plain(2, 0, 0, 0));
     put_request(w, plus(n, 1), plain(1, plus(k, 1) % 8, 0, 255));
-    put_request(w, plus(n, 2), plain(3, 0, begins(k), 0));
+    put_request(w, plus(n, 2), plain(3, work_order(k), begins(k), 0));
     list(w, plus(n, 3));
 }
 

@@ -143,10 +143,14 @@ pub const FOR_NAME: u32 = 74;
 
 pub const FOR_RECORD: u32 = 75;
 
-// The weekly run: how many weeks the floor is behind, and the largest count of branches.
+// The weekly run: how many weeks the floor is behind, the largest count of branches; the lists of work orders, and the longest.
 pub const BEHIND: u32 = 76;
 
 pub const LARGEST: u32 = 77;
+
+pub const LISTED: u32 = 78;
+
+pub const LONGEST: u32 = 79;
 
 // The place that the batch took last; how often another choice would have given another place, for four choices; the 16 places.
 pub const LAST_TAKEN: u32 = 37;
@@ -160,16 +164,26 @@ pub const HEAD_DUE: u32 = 80;
 
 pub const TOUCHED: u32 = 86;
 
-// Branch rows (21 of three numbers) and their counts: the reference's; the store's before a batch and as it gave them, where a fault is put in.
+// Branch rows (21 of four numbers) and their counts: the reference's; the store's before a batch and as it gave them, where a fault is put in.
 pub const ROWS: u32 = 256;
 
-pub const ROWS_BEFORE: u32 = 320;
+pub const ROWS_BEFORE: u32 = 344;
 
-pub const ROWS_GIVEN: u32 = 384;
+pub const ROWS_GIVEN: u32 = 528;
 
 pub const COUNT_BEFORE: u32 = 448;
 
 pub const COUNT_GIVEN: u32 = 449;
+
+// The list of work orders that is due at a moment: its refusal, how many orders, and the orders (16 at most); how many rows of the
+// moment's way are gone.
+pub const LIST_DUE: u32 = 428;
+
+pub const LIST_COUNT: u32 = 429;
+
+pub const LIST_ORDERS: u32 = 430;
+
+pub const LIST_GONE: u32 = 446;
 
 // Of refusals 3, how often each rule was the one that the last record row read breaks, and how often a row behind it breaks one too;
 // how often 2 refused a store with records.
@@ -212,10 +226,42 @@ pub const TURNED_BLANK: u32 = 520;
 
 pub const BUDGET_SEED: u32 = 521;
 
+// Where the generator of work orders and of the lists' lengths stands.
+pub const ORDER_SEED: u32 = 522;
+
+// The lists of work orders asked for in a turn: how many, and of each its moment and the bytes lent (48 of two numbers).
+pub const ASKED: u32 = 639;
+
+pub const ASKS: u32 = 640;
+
+// The lists so far: given, by the number of orders; refused, by the refusal; given where a row of the moment's way is gone, and how many
+// such rows; given where 18 refuses a batch.
+pub const LISTS_GIVEN: u32 = 616;
+
+pub const LISTS_REFUSED: u32 = 736;
+
+pub const SHORTER: u32 = 752;
+
+pub const ABSENT: u32 = 753;
+
+pub const DESPITE_DISK: u32 = 754;
+
+// How often a work order was what 2 refused: the first row's, another's; and how often one above 65,535 stood past the count.
+pub const ORDER_REFUSED: u32 = 755;
+
+pub const ORDER_PAST: u32 = 757;
+
+// The accepted reverts, by work order: 0, 1, 255, 256, 65,535, any other.
+pub const ORDERS_TAKEN: u32 = 758;
+
+// The way of each moment, for 256 of them: the branch that it is in, by the branch's first moment; where it is the first moment, 256 times
+// the branch that it was cut from, and 65,536 times the work order.
+pub const WAYS: u32 = 768;
+
 // The tables that are lent to the store.
 pub const BRANCH_TABLE: u32 = 5120;
 
-pub const RECORD_TABLE: u32 = 5184;
+pub const RECORD_TABLE: u32 = 5568;
 
 pub const PLACE_TABLE: u32 = 5248;
 
@@ -236,7 +282,8 @@ pub const DISK: u32 = 6656;
 pub const ANSWERS: u32 = 8192;
 
 // What a turn does: a fresh store; the next batch of the list; a read of every address at a moment; a batch on a changed store; live reads
-// and a copying step, after the batch of a list, or on a changed store that is refused.
+// and a copying step, after the batch of a list, or on a changed store that is refused; lists of work orders, after the batch of a list,
+// or on a changed store.
 pub const FRESH: u32 = 0;
 
 pub const PLAY: u32 = 1;
@@ -250,6 +297,10 @@ pub const ENDED: u32 = 4;
 pub const LIVE: u32 = 5;
 
 pub const LIVE_REFUSED: u32 = 6;
+
+pub const ORDERS: u32 = 7;
+
+pub const ORDERS_CHANGED: u32 = 8;
 
 // The last moment, and the largest number.
 pub const LAST: u32 = 4294967295;
@@ -283,7 +334,7 @@ pub fn held_at(i: u32, a: u32) -> u32
 }
 
 pub fn record_row(i: u32) -> u32
-    ensures { λ r. ⌜ r ≡ 5184 + i % 65536 * 3 ⌝ }
+    ensures { λ r. ⌜ r ≡ 5568 + i % 65536 * 3 ⌝ }
 {
     RECORD_TABLE + i % 65536 * 3
 }
@@ -300,6 +351,14 @@ pub fn disk_page(a: u32) -> u32
     ensures { λ r. ⌜ r ≡ 6656 + a % 4 * 256 ⌝ }
 {
     DISK + a % 4 * 256
+}
+
+// What the k-th list of a turn gave, in the answer area: the bytes lent, 48 at most, and in the 73rd its refusal, in the two behind it the
+// count.
+pub fn list_at(k: u32) -> u32
+    ensures { λ r. ⌜ r ≡ 8192 + k % 48 * 80 ⌝ }
+{
+    ANSWERS + k % 48 * 80
 }
 
 // A row of the name table lent.

@@ -1,10 +1,11 @@
-// Branch rows in the table of numbers, 21 from an index on: of each its start, its end and its cut. Behind the last they are zero.
+// Branch rows in the table of numbers, 21 from an index on: of each its start, its end, its cut and its work order. Behind the
+// last they are zero.
 use crate::layout::Numbers;
 use crate::words::get;
 use crate::words::minus;
 use crate::words::plus;
 use crate::words::put;
-use crate::words::put_two;
+use crate::words::put_four;
 ghost use mathlib.Core.Path.{_≡_};
 ghost use mathlib.Core.Bool.{false};
 ghost use Prim.Native.Nat.{_+_, _*_, _%_, _<_, _^_};
@@ -12,16 +13,15 @@ ghost use lib.ListN.{length, getD};
 
 // The k-th row of those at an index.
 pub fn row_at(at: u32, k: u32) -> u32
-    ensures { λ r. ⌜ r ≡ (at + k % 21 * 3) % 2 ^ 32 ⌝ }
+    ensures { λ r. ⌜ r ≡ (at + k % 21 * 4) % 2 ^ 32 ⌝ }
 {
-    plus(at, k % 21 * 3)
+    plus(at, k % 21 * 4)
 }
 
-pub fn put_row(w: &mut Numbers, row: u32, start: u32, end: u32, cut: u32)
+pub fn put_row(w: &mut Numbers, row: u32, start: u32, end: u32, cut: u32, order: u32)
     ensures { λ _. ⌜ length (now (w .exit)) ≡ length (now (w .entry)) ⌝ }
 {
-    put_two(w, row, start, end);
-    put(w, plus(row, 2), cut);
+    put_four(w, row, start, end, cut, order);
 }
 
 // Whether a row holds a moment.
@@ -39,7 +39,7 @@ pub fn holds(w: &Numbers, row: u32, moment: u32) -> bool
 pub fn copy_rows(w: &mut Numbers, from: u32, to: u32)
     ensures { λ _. ⌜ length (now (w .exit)) ≡ length (now (w .entry)) ⌝ }
 {
-    for i in 0..63u32 {
+    for i in 0..84u32 {
         copy_number(w, plus(from, i), plus(to, i));
     }
 }
@@ -51,7 +51,7 @@ fn copy_number(w: &mut Numbers, from: u32, to: u32)
     put(w, to, n);
 }
 
-// A child of a row takes over its cut. Answers whether it is one.
+// A child of a row takes over its cut, and keeps its own work order. Answers whether it is one.
 fn hand_down(w: &mut Numbers, row: u32, child: u32) -> u32
     ensures { λ _. ⌜ length (now (w .exit)) ≡ length (now (w .entry)) ⌝ }
 {
@@ -82,7 +82,8 @@ fn move_up(w: &mut Numbers, at: u32, k: u32)
     let start = get(w, next);
     let end = get(w, plus(next, 1));
     let cut = get(w, plus(next, 2));
-    put_row(w, row_at(at, k), start, end, cut);
+    let order = get(w, plus(next, 3));
+    put_row(w, row_at(at, k), start, end, cut, order);
 }
 
 fn close_up(w: &mut Numbers, at: u32, from: u32, last: u32)
@@ -100,6 +101,6 @@ pub fn remove(w: &mut Numbers, at: u32, n: u32, k: u32) -> u32
     let children = hand_down_all(w, at, n, row_at(at, k));
     let last = minus(n, 1);
     close_up(w, at, k, last);
-    put_row(w, row_at(at, last), 0, 0, 0);
+    put_row(w, row_at(at, last), 0, 0, 0, 0);
     children
 }

@@ -5,6 +5,7 @@ use trial_turns::family;
 use trial_weekly::BRANCH_ROWS;
 use trial_weekly::WEEKS;
 use trial_weekly::ways;
+use trial_words::layout::ABSENT;
 use trial_words::layout::BASE;
 use trial_words::layout::BATCHES;
 use trial_words::layout::BELOW;
@@ -14,6 +15,7 @@ use trial_words::layout::BROKEN_BEHIND;
 use trial_words::layout::BUDGET_SEED;
 use trial_words::layout::CALLED;
 use trial_words::layout::CHANGES;
+use trial_words::layout::DESPITE_DISK;
 use trial_words::layout::DIFFER;
 use trial_words::layout::DISK_LENGTH;
 use trial_words::layout::FAULT;
@@ -23,14 +25,23 @@ use trial_words::layout::FOR_NAME;
 use trial_words::layout::FOR_RECORD;
 use trial_words::layout::LARGEST;
 use trial_words::layout::LEFT_STALE;
+use trial_words::layout::LISTED;
+use trial_words::layout::LISTS_GIVEN;
+use trial_words::layout::LISTS_REFUSED;
 use trial_words::layout::LIVE_READS;
+use trial_words::layout::LONGEST;
 use trial_words::layout::MODE;
 use trial_words::layout::NAME_NUMBERS;
 use trial_words::layout::Numbers;
+use trial_words::layout::ORDER_PAST;
+use trial_words::layout::ORDER_REFUSED;
+use trial_words::layout::ORDER_SEED;
+use trial_words::layout::ORDERS_TAKEN;
 use trial_words::layout::READ;
 use trial_words::layout::RUN;
 use trial_words::layout::SEED;
 use trial_words::layout::SEEN;
+use trial_words::layout::SHORTER;
 use trial_words::layout::SIZE;
 use trial_words::layout::SLAB_LENGTH;
 use trial_words::layout::STEPS;
@@ -189,7 +200,7 @@ fn set_lengths(w: &mut Numbers, size: u32, branches: u32, records: u32, places: 
     put_four(
         w,
         BRANCH_LENGTH,
-        branches % 65536 * 3,
+        branches % 65536 * 4,
         records % 65536 * 3,
         places,
         NAME_NUMBERS,
@@ -345,6 +356,93 @@ fn say_steps(w: &Numbers) {
     io::write_all(1, b"\n");
 }
 
+// The accepted reverts by their work order, and where check 2 looked at one.
+fn say_orders(w: &Numbers) {
+    io::write_all(1, b"a revert was accepted with the work order 0");
+    say_count(w, ORDERS_TAKEN);
+    io::write_all(1, b", 1");
+    say_count(w, ORDERS_TAKEN + 1);
+    io::write_all(1, b", 255");
+    say_count(w, ORDERS_TAKEN + 2);
+    io::write_all(1, b", 256");
+    say_count(w, ORDERS_TAKEN + 3);
+    io::write_all(1, b", 65535");
+    say_count(w, ORDERS_TAKEN + 4);
+    io::write_all(1, b", another");
+    say_count(w, ORDERS_TAKEN + 5);
+    say_order_checks(w);
+}
+
+fn say_order_checks(w: &Numbers) {
+    io::write_all(1, b"; 2 refused the first row's work order");
+    say_count(w, ORDER_REFUSED);
+    io::write_all(1, b", one above 65535");
+    say_count(w, ORDER_REFUSED + 1);
+    io::write_all(1, b"; one above 65535 past the count was not refused");
+    say_count(w, ORDER_PAST);
+    io::write_all(1, b"\n");
+}
+
+// How many lists of work orders were given, of those with so many orders and more, up to another number.
+fn given_of(w: &Numbers, from: u32, to: u32) -> u32 {
+    let mut count: u32 = 0;
+    for n in from..to {
+        count = plus(count, get(w, plus(LISTS_GIVEN, n)));
+    }
+    count
+}
+
+fn say_lists_of(w: &Numbers, from: u32, to: u32) {
+    io::write_all(1, b" ");
+    io::print_decimal(1, given_of(w, from, to) as u64);
+}
+
+// The lists of work orders by their length, and those that were refused.
+fn say_lists(w: &Numbers) {
+    io::write_all(1, b"lists of work orders given");
+    say_lists_of(w, 1, 17);
+    io::write_all(1, b", of 1 order");
+    say_lists_of(w, 1, 2);
+    io::write_all(1, b", of 2");
+    say_lists_of(w, 2, 3);
+    io::write_all(1, b", of 3");
+    say_lists_of(w, 3, 4);
+    io::write_all(1, b", of 4 to 7");
+    say_lists_of(w, 4, 8);
+    io::write_all(1, b", of 8 to 16");
+    say_lists_of(w, 8, 17);
+    say_refused_lists(w);
+}
+
+fn say_refused_lists(w: &Numbers) {
+    io::write_all(1, b"; refused with 8");
+    say_count(w, LISTS_REFUSED + 8);
+    io::write_all(1, b", with 9");
+    say_count(w, LISTS_REFUSED + 9);
+    io::write_all(1, b", with 14");
+    say_count(w, LISTS_REFUSED + 14);
+    io::write_all(1, b", by the table checks with 1");
+    say_count(w, LISTS_REFUSED + 1);
+    io::write_all(1, b", with 2");
+    say_count(w, LISTS_REFUSED + 2);
+    io::write_all(1, b", with 3");
+    say_count(w, LISTS_REFUSED + 3);
+    io::write_all(1, b"; given where 18 refuses a batch");
+    say_count(w, DESPITE_DISK);
+    say_shorter(w);
+}
+
+fn say_shorter(w: &Numbers) {
+    io::write_all(
+        1,
+        b"\nlists given at a moment that has lost rows of its way in reclaims",
+    );
+    say_count(w, SHORTER);
+    io::write_all(1, b", rows absent from them");
+    say_count(w, ABSENT);
+    io::write_all(1, b"\n");
+}
+
 fn say_seen(w: &Numbers) {
     for k in 1..19u32 {
         say_count(w, plus(SEEN, k));
@@ -358,18 +456,21 @@ fn in_refused(fault: u32) -> u32 {
         49 => 1,
         58 | 59 => 1,
         82..=89 => 1,
+        112..=114 => 1,
         _ => 0,
     }
 }
 
 // Faults from the 41st on are of names, from the 50th on of reclaims, from the 57th on of the record rows read, from the 60th on of the
-// live disk, where the first ones are of an operator who sets back.
+// live disk, from the 92nd on of work orders, where the first ones of these two are of an operator who sets back.
 fn fault_family(fault: u32) -> u32 {
     match fault {
         1..=40 => FAULT_FAMILY,
         41..=49 => FAULT_FAMILY + 1,
         50..=56 => FAULT_FAMILY + 2,
         60..=81 => FAULT_FAMILY + 2,
+        92..=95 => FAULT_FAMILY + 2,
+        97..=111 => FAULT_FAMILY + 2,
         _ => FAULT_FAMILY,
     }
 }
@@ -387,7 +488,7 @@ fn with_fault(w: &mut Numbers, fault: u32) {
 }
 
 fn all_faults(w: &mut Numbers) {
-    for fault in 1..92u32 {
+    for fault in 1..115u32 {
         with_fault(w, fault);
     }
 }
@@ -427,6 +528,10 @@ fn say_weekly(w: &Numbers) {
     io::write_all(1, b", ");
     say(w, READ);
     io::write_all(1, b" pages read back, ");
+    say(w, LISTED);
+    io::write_all(1, b" lists of work orders, the longest of ");
+    say(w, LONGEST);
+    io::write_all(1, b", ");
     say(w, WRONG);
     io::write_all(1, b" differ\n");
 }
@@ -447,6 +552,7 @@ fn main() {
     let mut w = numbers();
     put(&mut w, SEED, 20260);
     put(&mut w, BUDGET_SEED, 20261);
+    put(&mut w, ORDER_SEED, 20262);
     run_families(&mut w);
     io::write_all(1, b"refusals and stops 1 to 18 came up:");
     say_seen(&w);
@@ -456,6 +562,8 @@ fn main() {
     say_settled(&w);
     say_broken(&w);
     say_live(&w);
+    say_orders(&w);
+    say_lists(&w);
     weekly(4);
     weekly(52);
     say_ways();

@@ -64,7 +64,26 @@ the record rows read where 3 refuses";
     io::write_all(1, b"a fault in ");
     say_line(names, fault);
     say_live_fault(fault);
+    say_order_fault(fault);
     io::write_all(1, b": put into ");
+}
+
+// The faults of work orders, from the 92nd on.
+fn say_order_fault(fault: u32) {
+    let names = b"the first row's work order\nthe rows after a revert, its work order dropped\n\
+the rows after a revert, its work order in the row that it closed\n\
+the rows of a reclaim, a work order taken over with the cut\n\
+the work order of the first branch of a fresh store\nthe refusal of a list\nthe count of a list\n\
+a list, turned\na list, the first row left out\na list, the moment's own branch left out\n\
+a list, the low byte first\na list, its count without its orders\na list, a byte past it written\n\
+a list after a reclaim, a work order taken over with the cut\na list, the work order of a revert dropped\n\
+a list that does not fit, given as far as it goes\na list that does not fit, its count given\n\
+a list that does not fit, a byte written\nthe refusal of a list below the floor\n\
+a list above now, given\nthe refusal of a list on a refused store\nthe count of a list on a refused store\n\
+a list on a refused store, a byte written";
+    if fault >= 92 {
+        say_line(names, minus(fault, 92));
+    }
 }
 
 // The faults of the live disk, from the 60th on.

@@ -13,7 +13,7 @@ use Rattle.wire.specs.declared.Parsed.the-variants.{End, Stop, One}
 abbrev pub requestOf : List ℕ → Request → model.Request
 requestOf part (Write a) = model.write a (take 256 (drop 7 part))
 requestOf part Mark = model.mark
-requestOf part (Revert m) = model.revert m
+requestOf part (Revert m w) = model.revert m w
 requestOf part (ReadAt a m) = model.readAt a m
 requestOf part (Reclaim m) = model.reclaim m
 requestOf part (Give n) = model.give n

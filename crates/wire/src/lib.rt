@@ -14,11 +14,11 @@ ghost use Rattle.rows.specs.View.{foundOf};
 ghost use Rattle.wire.specs.Requests.{parsedOf, Spells};
 ghost use Rattle.wire.specs.Answers.{headBytes, inFront, Lies, sent};
 
-// A request; a write's page stays in the input, behind the seven bytes; a name is read as two numbers.
+// A request; a revert has a moment and a work order; a write's page stays in the input, behind the seven bytes; a name is read as two numbers.
 pub enum Request {
     Write(u32),
     Mark,
-    Revert(u32),
+    Revert(u32, u32),
     ReadAt(u32, u32),
     Reclaim(u32),
     Give(Name),
@@ -102,7 +102,7 @@ fn by_operation(
     match operation {
         1 => followed(Request::Write(a as u32), m + spare, left, 256),
         2 => short(Request::Mark, a + m + spare),
-        3 => short(Request::Revert(m as u32), a + spare),
+        3 => short(Request::Revert(m as u32, a as u32), spare),
         4 => short(Request::ReadAt(a as u32, m as u32), spare),
         5 => short(Request::Reclaim(m as u32), a + spare),
         6 => {

@@ -6,3 +6,4 @@ pub mod Names
 pub mod Weekly
 pub mod RowsRead
 pub mod Live
+pub mod Orders

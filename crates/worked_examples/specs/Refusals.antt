@@ -44,7 +44,7 @@ storeWith bs rs ps recs now floor =
     }
 
 abbrev pub row : ℕ → ℕ → ℕ → Branch
-row s e c = record { start = s; end = e; cut = c }
+row s e c = record { start = s; end = e; cut = c; order = 0 }
 
 abbrev pub rec : ℕ → ℕ → ℕ → Record
 rec a m p = record { address = a; moment = m; place = p }
@@ -90,7 +90,7 @@ requests =
     ∷ record { store = plain 0 0; input = marks ++ reverts 0; space = 99; stop = 0; answered = 2; out = says 0 ++ refuses 7 }
     ∷ record { store = plain 4 4; input = reverts 3; space = 99; stop = 0; answered = 1; out = refuses 8 }
     ∷ record { store = plain 4 3; input = reverts 4; space = 99; stop = 0; answered = 1; out = refuses 9 }
-    ∷ record { store = plain open-end 3; input = requestBytes (revert open-end); space = 99; stop = 0; answered = 1; out = refuses 9 }
+    ∷ record { store = plain open-end 3; input = requestBytes (revert open-end 0); space = 99; stop = 0; answered = 1; out = refuses 9 }
     ∷ record { store = plain open-end 3; input = reverts 3; space = 99; stop = 0; answered = 1; out = refuses 10 }
     ∷ record { store = plain open-end 3; input = marks; space = 99; stop = 0; answered = 1; out = refuses 10 }
     ∷ record { store = plain open-end 3; input = requestBytes (write 5 (letter 1)); space = 99; stop = 0; answered = 1; out = 0 ∷ 255 ∷ 255 ∷ 255 ∷ 255 ∷ [] }

@@ -34,7 +34,7 @@ pub record Week : Type 0 where
 -- branch rows, laid one behind the other
 abbrev pub laid : List Branch → List ℕ
 laid [] = []
-laid (b ∷ bs) = b .start ∷ b .end ∷ b .cut ∷ laid bs
+laid (b ∷ bs) = b .start ∷ b .end ∷ b .cut ∷ b .order ∷ laid bs
 
 abbrev pub sameRows : List Branch → List Branch → Bool
 sameRows bs cs = sameList (laid bs) (laid cs)

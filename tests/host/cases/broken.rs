@@ -41,10 +41,10 @@ fn drawn_call(draw: &mut Draw, now: u32) -> (Vec<u8>, usize, u32) {
     }
 }
 
-/// A live read or a copying step, for which this is due: 0 or a refusal.
-fn live_call(run: &mut Run, draw: &mut Draw, due: u32) {
+/// A live read, a copying step or a listing, for which this is due: 0 or a refusal. A listing does not test 18.
+fn another_call(run: &mut Run, draw: &mut Draw, due: u32) {
     let size = u64::from(run.head(0)).clamp(1, u64::from(LARGEST_SIZE));
-    match draw.below(3) {
+    match draw.below(4) {
         0 => {
             let any = draw.below(size);
             let address = draw.one_of(&[0, size - 1, any]) as u32;
@@ -56,6 +56,13 @@ fn live_call(run: &mut Run, draw: &mut Draw, due: u32) {
             let most = if due == 0 && size > 1_000 { 300 } else { OPEN_END };
             let budget = drawn_budget(draw, size).min(most);
             assert_eq!(run.copy_step(budget).refusal, due, "the case says what is due");
+        }
+        2 => {
+            let list = draw.bytes(ORDER_BYTES * MOST_BRANCHES);
+            let now = run.areas.head.get(12..16).map_or(0, |bytes| number_at(bytes, 0));
+            let told = run.work_orders(&None, now, &list).0;
+            assert_eq!(told.refusal, if due == 18 { 0 } else { due }, "the case says what is due");
+            run.compare();
         }
         _ => {}
     }
@@ -69,7 +76,7 @@ pub fn call(run: &mut Run, draw: &mut Draw, areas: Areas, due: (u32, usize)) {
     let (report, after) = run.batch(&bytes, &area, |_, _| {});
     let result = if due.0 == 0 { stop } else { due.0 };
     assert_eq!((report.stop, report.rows_read), (result, due.1 as u64), "the case says what is due");
-    live_call(run, draw, due.0);
+    another_call(run, draw, due.0);
     if due.0 != 0 {
         assert_eq!((report.answered, report.request_bytes, report.answer_bytes), (0, 0, 0), "nothing is answered");
         assert!(run.areas == areas && after == area, "a refused call writes nothing");
@@ -256,7 +263,7 @@ fn now(run: &Run) -> u64 {
 /// Weeks in which nothing is written: a moment is sealed and set back to. A reclaim later takes their branches out.
 fn idle_weeks(run: &mut Run, draw: &mut Draw) {
     for _ in 0..draw.within(2, 3) {
-        serve(run, &[mark(), revert(now(run))].concat());
+        serve(run, &[mark(), revert(now(run), drawn_order(draw))].concat());
     }
 }
 
@@ -278,7 +285,7 @@ fn with_gaps(run: &mut Run, draw: &mut Draw, above: u64) {
     serve(run, &mark());
     pages(run, draw, &[5, 6]);
     serve(run, &reclaim(start + above));
-    serve(run, &[mark(), revert(start + above)].concat());
+    serve(run, &[mark(), revert(start + above, drawn_order(draw))].concat());
     pages(run, draw, &[3, 5, 7]);
     let store = rows(&run.areas);
     assert!(gaps(&store).len() >= 2, "there are gaps below the floor");

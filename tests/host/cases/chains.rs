@@ -49,7 +49,7 @@ impl List {
         if week == Week::Idle && draw.percent(40) {
             draft.add(write(draw.within(1, draft.outlook().size - 1), &draw.bytes(PAGE)));
         }
-        draft.add(revert(draw.within(from, last)));
+        draft.add(revert(draw.within(from, last), drawn_order(draw)));
         given
     }
 
@@ -102,7 +102,7 @@ impl List {
         self.reclaim(u64::from(sealed) + 1);
         assert!(self.branches().iter().all(|row| row.end != sealed), "it goes with a floor above its end");
         if draw.percent(70) {
-            self.draft.add(revert(u64::from(name.moment)));
+            self.draft.add(revert(u64::from(name.moment), drawn_order(draw)));
             self.idle_weeks(draw, 1);
             self.reclaim(self.draft.now());
             self.read_some(draw);
@@ -135,7 +135,7 @@ impl List {
             }
             1 if !outlook.names.is_empty() => {
                 let row = outlook.names[draw.below(outlook.names.len() as u64) as usize];
-                self.draft.add(revert(u64::from(row.moment)));
+                self.draft.add(revert(u64::from(row.moment), drawn_order(draw)));
             }
             2 => {
                 let mix = &MIXES[draw.below(MIXES.len() as u64) as usize];

@@ -4,7 +4,7 @@
 use crate::draw::*;
 use crate::packed::rounds;
 use crate::tables::*;
-use crate::{drawn_answer_area, run_batches, Host, Run};
+use crate::{drawn_answer_area, list_all, run_batches, Host, Run};
 use reference::pictures::Pile;
 use reference::*;
 
@@ -18,6 +18,7 @@ struct Counted {
     reads: u64,
     pages: u64,
     live_reads: u64,
+    listings: u64,
 }
 
 /// A read of every address at every readable moment.
@@ -68,6 +69,7 @@ fn copy_and_read(run: &mut Run, draw: &mut Draw, pile: &mut Option<Pile>, counte
         let read_of_copy = run.batch_beside(pile, &reads, &area);
         assert!(read_of_copy == read, "the reads of a copy are answered as those of the store");
         counted.live_reads += run.read_all_live(pile);
+        counted.listings += list_all(run, draw, pile);
         let served = run.batch(&more, &more_area, |_, _| {});
         if !larger {
             // The slab, the live disk and the name rows that are not counted are the copy's own; all else is as in the store.
@@ -78,7 +80,7 @@ fn copy_and_read(run: &mut Run, draw: &mut Draw, pile: &mut Option<Pile>, counte
             names[..counted].copy_from_slice(&after.names[..counted]);
             run.host.compare(&Areas { slab: own.slab, disk: own.disk, marks: own.marks, names, ..after.clone() });
         }
-        run.live_calls(draw, &None);
+        run.other_calls(draw, &None);
         run.lend(original.clone());
         counted.copies += 1;
         counted.reads += read.0.answered;
@@ -91,7 +93,7 @@ fn copy_and_read(run: &mut Run, draw: &mut Draw, pile: &mut Option<Pile>, counte
     counted.with_gaps += 2 * u64::from(PAGE * used < slab_in_use(&original.places));
 
     run.batch_beside(pile, &more, &more_area);
-    run.live_calls(draw, pile);
+    run.other_calls(draw, pile);
 }
 
 /// Lists over small stores, copied now and then.
@@ -121,13 +123,14 @@ pub fn copies(host: &mut dyn Host, seed: u64, count: u64) {
     host.end("copies up to the last page in use");
     host.note(&format!(
         "{} copies, {} of them without the end of the slab, {} with free places before it, {} with names; {} reads, \
-         {} pages found; {} live reads",
+         {} pages found; {} live reads; {} listings",
         counted.copies,
         counted.shorter,
         counted.with_gaps,
         counted.with_names,
         counted.reads,
         counted.pages,
-        counted.live_reads
+        counted.live_reads,
+        counted.listings
     ));
 }

@@ -65,8 +65,9 @@ pub fn mark() -> Vec<u8> {
     packed(2, 0, 0, 0)
 }
 
-pub fn revert(moment: u64) -> Vec<u8> {
-    packed(3, 0, moment, 0)
+/// The address field of a revert is its work order (document 02, Seven).
+pub fn revert(moment: u64, order: u64) -> Vec<u8> {
+    packed(3, order, moment, 0)
 }
 
 pub fn read(address: u64, moment: u64) -> Vec<u8> {
@@ -127,6 +128,18 @@ pub fn drawn_address(draw: &mut Draw, outlook: &Outlook) -> u64 {
         0 => draw.one_of(&[size - 1, size, size + 1, 65_535]).min(65_535),
         1 => draw.below(size),
         _ => draw.below(size.min(outlook.few)),
+    }
+}
+
+/// A work order: any of 16 bits, whatever the size of the volume.
+pub fn drawn_order(draw: &mut Draw) -> u64 {
+    match draw.below(8) {
+        0 => 0,
+        1 => draw.one_of(&[1, 2, 127, 128, 254, 255, 256, 257]),
+        2 => draw.one_of(&[32_767, 32_768, 65_280, 65_534, 65_535]),
+        3 => 256 * draw.below(256),
+        4 => draw.below(10),
+        _ => draw.below(65_536),
     }
 }
 
@@ -215,7 +228,7 @@ pub fn drawn_request(draw: &mut Draw, mix: &Mix, outlook: &mut Outlook) -> Vec<u
         if outlook.can_read(moment) && moment < outlook.now {
             outlook.now = (outlook.now + 1).min(u64::from(OPEN_END));
         }
-        return revert(moment);
+        return revert(moment, drawn_order(draw));
     }
     chosen -= mix.revert;
     if chosen < mix.read {
@@ -258,7 +271,8 @@ pub fn drawn_fault(draw: &mut Draw) -> Vec<u8> {
     match draw.below(6) {
         0 => packed(0, 0, 0, 0),
         1 => packed(draw.within(1, 7), 0, 0, draw.one_bit(5)),
-        2 => packed(draw.one_of(&[2, 3, 5, 6, 7]), draw.one_bit(16), 0, 0),
+        2 if draw.percent(10) => packed(3, drawn_order(draw), 0, draw.one_bit(5)),
+        2 => packed(draw.one_of(&[2, 5, 6, 7]), draw.one_bit(16), 0, 0),
         3 => packed(draw.one_of(&[1, 2, 7]), 0, draw.one_bit(32), 0),
         4 => packed(draw.one_of(&[1, 6, 7]), 0, 0, 0),
         _ => draw.bytes(7),

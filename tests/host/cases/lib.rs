@@ -11,6 +11,7 @@ mod draw;
 mod live;
 mod names;
 mod offences;
+mod orders;
 mod packed;
 mod tables;
 mod taken_out;
@@ -23,6 +24,7 @@ use copies::copies;
 use draw::*;
 use live::{largest_live_disk, live_disks};
 use names::names;
+use orders::{broken_orders, largest_lists, orders};
 use packed::packed;
 use tables::*;
 use taken_out::{Counting, TakenOut};
@@ -47,6 +49,8 @@ pub trait Host {
     fn live_read(&mut self, address: u32, told: &LiveRead, page: &[u8]);
     /// Calls for a copying step; what the reference tells.
     fn copy_step(&mut self, budget: u32, told: &Step);
+    /// Calls for the work orders of a moment, with a list of these bytes; what the reference tells, and the list that it gives.
+    fn work_orders(&mut self, moment: u32, before: &[u8], told: &Listing, after: &[u8]);
     /// The lent areas that the reference has after the last call; a host that differs takes these over.
     fn compare(&mut self, areas: &Areas);
     /// The family of cases is complete.
@@ -195,8 +199,30 @@ impl<'a> Run<'a> {
         told
     }
 
-    /// Some live reads and copying steps, or none, whatever the areas hold.
-    fn live_calls(&mut self, draw: &mut Draw, pile: &Option<Pile>) {
+    /// The work orders of a moment, into a list of these bytes; compared with the pile, too, if there is one. The areas, which it
+    /// must leave, are compared by the caller, after one or more of them.
+    fn work_orders(&mut self, pile: &Option<Pile>, moment: u32, before: &[u8]) -> (Listing, Vec<u8>) {
+        let mut after = before.to_vec();
+        let told = work_orders(&mut self.areas, moment, &mut after);
+        self.host.work_orders(moment, before, &told, &after);
+        if let Some(pile) = pile {
+            if (told, after.clone()) != listing_of(pile, moment, before) {
+                self.host.pile_differs(&format!("the work orders of moment {moment}"));
+            }
+        }
+        (told, after)
+    }
+
+    /// The same with a list of any length, often just what is needed or nearly so.
+    fn drawn_work_orders(&mut self, draw: &mut Draw, pile: &Option<Pile>, moment: u32) -> Listing {
+        let needed = work_orders(&mut self.areas, moment, &mut [0; ORDER_BYTES * MOST_BRANCHES]).count;
+        let space = drawn_space(draw, ORDER_BYTES as u64 * needed);
+        let list = draw.bytes(space);
+        self.work_orders(pile, moment, &list).0
+    }
+
+    /// Some live reads, copying steps and listings, or none, whatever the areas hold.
+    fn other_calls(&mut self, draw: &mut Draw, pile: &Option<Pile>) {
         let size = self.areas.marks.len() as u64;
         if draw.percent(25) {
             for _ in 0..draw.within(1, 2) {
@@ -207,6 +233,13 @@ impl<'a> Run<'a> {
         if draw.percent(20) {
             self.copy_step(drawn_budget(draw, size));
             self.live_read(pile, drawn_live_address(draw, size));
+            self.compare();
+        }
+        if draw.percent(25) {
+            for _ in 0..draw.within(1, 3) {
+                let moment = drawn_list_moment(draw, &self.areas);
+                self.drawn_work_orders(draw, pile, moment);
+            }
             self.compare();
         }
     }
@@ -232,6 +265,55 @@ fn outlook_of(areas: &Areas, few: u64) -> Outlook {
     let rows = areas.names.chunks_exact(NAME_ROW_BYTES).take(head(5) as usize);
     let names = rows.map(|row| Name { bytes: name_at(row), moment: number_at(row, 2) }).collect();
     Outlook { size: head(0), few, now: head(3), floor: head(4), names }
+}
+
+/// A moment to list the work orders of, whatever the areas hold: at the floor, at now, named, beside these, or any.
+fn drawn_list_moment(draw: &mut Draw, areas: &Areas) -> u32 {
+    let number = |area: &[u8], index: usize| area.get(4 * index..4 * index + 4).map_or(0, |bytes| number_at(bytes, 0));
+    let (now, floor) = (number(&areas.head, 3), number(&areas.head, 4));
+    let names = u64::from(number(&areas.head, 5)).clamp(1, MOST_NAMES as u64);
+    let named = number(&areas.names, 3 * draw.below(names) as usize + 2);
+    match draw.below(16) {
+        0 => floor.wrapping_sub(1),
+        1 => now.wrapping_add(1),
+        2 => OPEN_END,
+        3 => draw.next() as u32,
+        4 => draw.one_of(&[0, 1, 4_294_967_294]) as u32,
+        5 | 6 => floor,
+        7..=9 => now,
+        10 | 11 => named,
+        12 => named.wrapping_add(1),
+        _ if floor <= now => draw.within(u64::from(floor), u64::from(now)) as u32,
+        _ => floor,
+    }
+}
+
+/// A list's space, where so much is needed: just that, a byte or two less or more, none, more, or any.
+fn drawn_space(draw: &mut Draw, needed: u64) -> usize {
+    (match draw.below(12) {
+        0 => needed.saturating_sub(1),
+        1 => needed.saturating_sub(2),
+        2 => 0,
+        3 => needed + draw.within(1, 2),
+        4 | 5 => needed + draw.within(3, 40),
+        6 => draw.below(needed + 1),
+        _ => needed,
+    }) as usize
+}
+
+/// What the pile claims of a listing, and the list that it gives.
+fn listing_of(pile: &Pile, moment: u32, before: &[u8]) -> (Listing, Vec<u8>) {
+    let refused = |refusal| (Listing { refusal, count: 0 }, before.to_vec());
+    if !pile.can_read(moment) {
+        return refused(if moment < pile.floor { 8 } else { 9 });
+    }
+    let orders = pile.orders(moment);
+    let bytes: Vec<u8> = orders.iter().flat_map(|order| (*order as u16).to_be_bytes()).collect();
+    if bytes.len() > before.len() {
+        return refused(14);
+    }
+    let past = before[bytes.len()..].to_vec();
+    (Listing { refusal: 0, count: orders.len() as u64 }, [bytes, past].concat())
 }
 
 /// No fewer bytes than the answers of these requests take.
@@ -279,7 +361,7 @@ fn run_batches(run: &mut Run, draw: &mut Draw, batches: u64, most: u64, pile: &m
         let cut = if draw.percent(30) { draw.below(waiting.len() as u64 + 1) as usize } else { waiting.len() };
         let area = drawn_answer_area(draw, &run.areas, &waiting[..cut]);
         let (report, _) = run.batch_beside(pile, &waiting[..cut], &area);
-        run.live_calls(draw, pile);
+        run.other_calls(draw, pile);
         if draw.percent(60) {
             let unread = if report.stop == 12 || report.stop == 13 { draw.one_of(&[1, 7]) as usize } else { 0 };
             let dropped = (report.request_bytes as usize + unread).min(waiting.len());
@@ -305,6 +387,20 @@ fn read_all(run: &mut Run, draw: &mut Draw, pile: &mut Option<Pile>) {
     }
     let area = draw.bytes(PAGE_ANSWER_BYTES * bytes.len() / 7);
     run.batch_beside(pile, &bytes, &area);
+}
+
+/// The work orders of every readable moment, a few hundred at most, of the moments beside them and of the last; how many
+/// listings.
+fn list_all(run: &mut Run, draw: &mut Draw, pile: &Option<Pile>) -> u64 {
+    let outlook = run.outlook();
+    let mut moments: Vec<u64> = (outlook.floor..=outlook.now.min(outlook.floor + 200)).collect();
+    moments.extend(outlook.names.iter().map(|name| u64::from(name.moment)));
+    moments.extend([outlook.floor.saturating_sub(1), outlook.now, outlook.now + 1, u64::from(OPEN_END)]);
+    for moment in &moments {
+        run.drawn_work_orders(draw, pile, (*moment).min(u64::from(OPEN_END)) as u32);
+    }
+    run.compare();
+    moments.len() as u64
 }
 
 /// Moves now forward by hand, so that the last moments come up; the tables stay sound.
@@ -342,13 +438,13 @@ pub fn examples(host: &mut dyn Host, seed: u64) {
         reclaim(0),
         name(0, b"the same"),
         name(1, b"not this"),
-        revert(0),
+        revert(0, 256),
         read(5, 3),
         withdraw(b"as built"),
         read(5, 0),
         withdraw(b"the same"),
         read(5, 0),
-        revert(0),
+        revert(0, 9),
         reclaim(2),
     ];
     let session = vec![
@@ -358,10 +454,10 @@ pub fn examples(host: &mut dyn Host, seed: u64) {
         write(5, &page(b'B')),
         mark(),
         write(5, &page(b'C')),
-        revert(0),
+        revert(0, 4_711),
         read(5, 3),
         write(5, &page(b'D')),
-        revert(2),
+        revert(2, 65_535),
         read(5, 4),
         read(5, 3),
         read(5, 2),
@@ -372,7 +468,7 @@ pub fn examples(host: &mut dyn Host, seed: u64) {
         read(5, 4),
     ];
     // The cut of the open row is taken over from 4 to 2 and to 0; then a row stays for its page, and one for a name.
-    let week = |sealed: u64| [mark(), revert(sealed)].concat();
+    let week = |sealed: u64| [mark(), revert(sealed, 1_000 + sealed)].concat();
     let weekly = vec![
         [week(0), week(2), week(4)].concat(),
         reclaim(6),
@@ -380,7 +476,7 @@ pub fn examples(host: &mut dyn Host, seed: u64) {
         [week(12), week(14), reclaim(16), reclaim(16)].concat(),
         read(5, 16),
         read(5, 11),
-        [revert(11), read(5, 17), read(5, 10)].concat(),
+        [revert(11, 1), read(5, 17), read(5, 10)].concat(),
         [withdraw(b"in a row"), reclaim(16), reclaim(17), week(17)].concat(),
         [write(5, &page(b'B')), mark(), reclaim(20), read(5, 20)].concat(),
     ];
@@ -389,14 +485,16 @@ pub fn examples(host: &mut dyn Host, seed: u64) {
         (usual, named),
         ((64, 7, 2, 2), weekly),
         (usual, vec![write(5, &page(b'A')), write(5, &page(b'B'))]),
-        (usual, vec![mark(), revert(1), revert(0)]),
-        (usual, vec![[mark(), revert(0), read(5, 2)].concat()]),
+        (usual, vec![mark(), revert(1, 6), revert(0, 7)]),
+        (usual, vec![[mark(), revert(0, 0), read(5, 2)].concat()]),
         ((6, 1, 1, 1), vec![read(6, 0)]),
         ((6, 1, 1, 2), vec![write(0, &page(1)), write(1, &page(1)), write(0, &page(2))]),
         ((6, 1, 2, 1), vec![write(0, &page(1)), write(1, &page(1)), write(0, &page(2))]),
-        ((6, 1, 1, 1), vec![mark(), revert(0)]),
+        ((6, 1, 1, 1), vec![mark(), revert(0, 6)]),
+        // A work order at or above A, and one of all bits; a spare bit besides.
+        ((6, 4, 1, 1), vec![mark(), revert(0, 6), revert(1, 65_535), draw::packed(3, 6, 0, 1)]),
         ((6, 1, 1, 1), vec![[mark(), mark(), mark(), reclaim(3)].concat(), read(0, 2)]),
-        ((6, 2, 1, 1), vec![[mark(), mark(), mark(), mark()].concat(), revert(4)]),
+        ((6, 2, 1, 1), vec![[mark(), mark(), mark(), mark()].concat(), revert(4, 5)]),
         ((6, 1, 1, 1), vec![vec![0x40, 0, 0], vec![0; 7], vec![0x40, 0, 0, 0, 0, 0, 1]]),
         (
             (6, 1, 1, 1),
@@ -412,7 +510,8 @@ pub fn examples(host: &mut dyn Host, seed: u64) {
         for bytes in batches {
             let area = draw.bytes(300);
             run.batch(&bytes, &area, |_, _| {});
-            run.live_calls(draw, &None);
+            run.other_calls(draw, &None);
+            list_all(&mut run, draw, &None);
         }
         run.batch(&mark(), &[1, 2, 3, 4], |_, _| {});
     }
@@ -436,6 +535,7 @@ pub fn lists(host: &mut dyn Host, seed: u64, count: u64) {
         let batches = draw.within(2, 24);
         run_batches(&mut run, draw, batches, 16, &mut pile);
         read_all(&mut run, draw, &mut pile);
+        list_all(&mut run, draw, &pile);
         if let Some(what) = pile.as_ref().and_then(|pile| pile.difference(&run.areas)) {
             run.host.pile_differs(&what);
         }
@@ -507,7 +607,7 @@ pub fn damaged_tables(host: &mut dyn Host, seed: u64, count: u64) {
         let bytes = drawn_batch(draw, mix, &mut outlook, 8, 5);
         let area = drawn_answer_area(draw, &run.areas, &bytes);
         let (report, _) = run.batch(&bytes, &area, |_, _| {});
-        run.live_calls(draw, &None);
+        run.other_calls(draw, &None);
         if ![1, 2, 3, 18].contains(&report.stop) {
             run_batches(&mut run, draw, 2, 12, &mut None);
         }
@@ -547,16 +647,20 @@ pub fn edge_sizes(host: &mut dyn Host, seed: u64) {
                     set_number_at(&mut areas.branches, 0, 0);
                     set_number_at(&mut areas.branches, 1, OPEN_END);
                     set_number_at(&mut areas.branches, 2, 0);
+                    set_number_at(&mut areas.branches, 3, 0);
                 }
                 areas.places.fill(0);
                 run.lend(areas);
             }
-            let bytes = [mark(), write(0, &[7; PAGE]), read(0, 1), revert(0), mark(), reclaim(1)].concat();
+            let bytes = [mark(), write(0, &[7; PAGE]), read(0, 1), revert(0, 65_535), mark(), reclaim(1)].concat();
             let area = draw.bytes(600);
             run.batch(&bytes, &area, |_, _| {});
             let last = u64::from(size).saturating_sub(1).min(65_535);
             run.batch(&[write(last, &[8; PAGE]), read(last, 1), write(0, &[9; PAGE])].concat(), &area, |_, _| {});
-            run.live_calls(draw, &None);
+            run.other_calls(draw, &None);
+            let now = run.head(3);
+            run.work_orders(&None, now, &[0x66; 5]);
+            run.compare();
         }
     }
     lengths_of_head_and_names(host, draw);
@@ -575,7 +679,7 @@ fn lengths_of_head_and_names(host: &mut dyn Host, draw: &mut Draw) {
         area_of(&mut areas, which).resize(length, 0);
         run.lend(areas);
         run.batch(&mark(), &[0x33; 9], |_, _| {});
-        run.live_calls(draw, &None);
+        run.other_calls(draw, &None);
         run.fresh(5);
     }
 }
@@ -595,6 +699,9 @@ pub fn empty_areas(host: &mut dyn Host, seed: u64) {
         let area = if which == 9 { Vec::new() } else { draw.bytes(9) };
         run.batch(&bytes, &area, |_, _| {});
         run.live_read(&None, 0);
+        for space in [0, 1, 2, 3] {
+            run.work_orders(&None, 0, &[0x66; 3][..space]);
+        }
         run.copy_step(3);
         run.fresh(5);
     }
@@ -603,7 +710,7 @@ pub fn empty_areas(host: &mut dyn Host, seed: u64) {
         let mut run = Run::fresh_of(host, draw, &sizes);
         let area = draw.bytes(room);
         run.batch(&mark().repeat(70_000), &area, |_, _| {});
-        run.batch(&[write(0, &[1; PAGE]), revert(65_536), reclaim(65_537)].concat(), &area, |_, _| {});
+        run.batch(&[write(0, &[1; PAGE]), revert(65_536, 65_535), reclaim(65_537)].concat(), &area, |_, _| {});
     }
     host.end("empty areas and many requests");
 }
@@ -625,16 +732,16 @@ pub fn full_tables(host: &mut dyn Host, seed: u64, count: u64) {
             bytes.extend(read(draw.below(65_536), draw.within(outlook.floor, outlook.now)));
             bytes.extend(read(draw.below(400), u64::from(any_name(draw).moment)));
             bytes.extend(mark());
-            bytes.extend(revert(draw.within(outlook.floor, outlook.now)));
+            bytes.extend(revert(draw.within(outlook.floor, outlook.now), drawn_order(draw)));
             bytes.extend(name(u64::from(any_name(draw).moment), &drawn_name(draw, &outlook)));
         }
-        bytes.extend(revert(u64::from(any_name(draw).moment)));
+        bytes.extend(revert(u64::from(any_name(draw).moment), drawn_order(draw)));
         for step in [0, 5, 40] {
             bytes.extend(reclaim((outlook.floor + step).min(outlook.now)));
         }
         for _ in 0..6 {
             bytes.extend(write(draw.below(65_536), &draw.bytes(PAGE)));
-            bytes.extend(revert(draw.within(outlook.now - 2, outlook.now)));
+            bytes.extend(revert(draw.within(outlook.now - 2, outlook.now), drawn_order(draw)));
             bytes.extend(read(draw.below(65_536), outlook.now));
             bytes.extend(withdraw(&any_name(draw).bytes));
             bytes.extend(name(outlook.now - draw.within(0, 200), &drawn_name(draw, &outlook)));
@@ -646,6 +753,10 @@ pub fn full_tables(host: &mut dyn Host, seed: u64, count: u64) {
             run.live_read(&None, address as u32);
         }
         run.copy_step(draw.within(1, 300) as u32);
+        for _ in 0..4 {
+            let moment = drawn_list_moment(draw, &run.areas);
+            run.drawn_work_orders(draw, &None, moment);
+        }
         // The same tables with one number changed, anywhere.
         let sound = drawn_full(draw, &sizes, table);
         for _ in 0..3 {
@@ -654,6 +765,8 @@ pub fn full_tables(host: &mut dyn Host, seed: u64, count: u64) {
             run.lend(areas);
             run.batch(&mark(), &area[..9], |_, _| {});
             run.live_read(&None, draw.below(65_536) as u32);
+            let now = run.head(3);
+            run.drawn_work_orders(draw, &None, now);
         }
     }
     host.end("full tables");
@@ -667,8 +780,8 @@ pub fn full_tables(host: &mut dyn Host, seed: u64, count: u64) {
 /// every month a reclaim that leaves a year, in some decades ten, and a few writes behind it. In the last
 /// decades the record table gets full now and then. Twice a year the state is commissioned, by a name; names are withdrawn
 /// after a year or more, most of them below the floor by then. Every week is read at a named moment, and some set-backs go to
-/// one. Every month there is a copying step, every second week a live read. The lent areas are compared every `interval` weeks,
-/// answers and counts after every call.
+/// one. Every month there is a copying step, every second week a live read, every fourth a listing. The lent areas are compared
+/// every `interval` weeks, answers and counts after every call.
 pub fn hundred_years(host: &mut dyn Host, seed: u64, weeks: u64, interval: u64) {
     let draw = &mut Draw::new(seed);
     let sizes = Sizes { size: 65_536, branches: 4_096, records: 65_536, places: 65_536 };
@@ -707,7 +820,7 @@ pub fn hundred_years(host: &mut dyn Host, seed: u64, weeks: u64, interval: u64) 
         let mut undo_at = None;
         match undo {
             Some((sealed, when)) if when == week => {
-                bytes.extend(revert(sealed));
+                bytes.extend(revert(sealed, drawn_order(draw)));
                 undo = None;
             }
             None if draw.percent(25) => {
@@ -715,7 +828,7 @@ pub fn hundred_years(host: &mut dyn Host, seed: u64, weeks: u64, interval: u64) 
                 if !outlook.names.is_empty() && draw.percent(10) {
                     moment = u64::from(outlook.names[draw.below(outlook.names.len() as u64) as usize].moment);
                 }
-                bytes.extend(revert(moment));
+                bytes.extend(revert(moment, drawn_order(draw)));
                 if draw.percent(50) {
                     undo_at = Some(week + draw.within(1, 8));
                 }
@@ -743,6 +856,10 @@ pub fn hundred_years(host: &mut dyn Host, seed: u64, weeks: u64, interval: u64) 
         }
         if week % 2 == 0 {
             run.live_read(&None, draw.below(65_536) as u32);
+        }
+        if week % 4 == 1 {
+            let moment = drawn_list_moment(draw, &run.areas);
+            run.drawn_work_orders(draw, &None, moment);
         }
         if week % 13 % 4 == 1 {
             run.copy_step(draw.within(1, 2_000) as u32);
@@ -788,13 +905,16 @@ pub struct Counts {
     pub answered: u64,
     pub stops: [u64; NUMBERS],
     pub refusals: [u64; NUMBERS],
-    /// Results of live reads and of copying steps.
+    /// Results of live reads, of copying steps and of listings.
     pub live_reads: [u64; NUMBERS],
     pub steps: [u64; NUMBERS],
+    pub lists: [u64; NUMBERS],
     /// Pages of live reads: none, on the disk, in the slab.
     pub pages: [u64; 3],
     /// Pages brought to date.
     pub copied: u64,
+    /// Work orders listed.
+    pub orders: u64,
 }
 
 /// All families, in order. `scale` is in hundredths of the usual number of cases.
@@ -838,6 +958,12 @@ pub fn all(host: &mut dyn Host, seed: u64, scale: u64, families: &str) {
     if chosen("unfit") {
         unfit_disks(host, seed, part(100));
     }
+    if chosen("orders") {
+        orders(host, seed, part(400));
+    }
+    if chosen("broken_orders") {
+        broken_orders(host, seed, part(400));
+    }
     if chosen("edges") {
         edge_sizes(host, seed);
     }
@@ -849,6 +975,9 @@ pub fn all(host: &mut dyn Host, seed: u64, scale: u64, families: &str) {
     }
     if chosen("broken_full") {
         broken_rows_of_full_tables(host, seed);
+    }
+    if chosen("large_lists") {
+        largest_lists(host, seed);
     }
     if chosen("large_disks") {
         largest_live_disk(host, seed);

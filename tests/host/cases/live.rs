@@ -185,7 +185,7 @@ impl<'a> List<'a> {
                     self.see(kinds[marks[*address as usize] as usize], true);
                 }
             }
-            Request::Revert { moment } => {
+            Request::Revert { moment, .. } => {
                 let some = marks.iter().any(is_current);
                 self.see(What::RevertCurrent, accepted && marks.iter().all(is_current));
                 self.see(What::RevertPartly, accepted && partly);
@@ -232,6 +232,11 @@ impl<'a> List<'a> {
         self.accepted(draw, &write(address, &page));
     }
 
+    fn revert(&mut self, draw: &mut Draw, moment: u64) {
+        let order = drawn_order(draw);
+        self.accepted(draw, &revert(moment, order));
+    }
+
     /// Writes and reverts that are refused, and that have no space for their answer.
     fn turned_away(&mut self, draw: &mut Draw) {
         let page = draw.bytes(PAGE);
@@ -239,9 +244,9 @@ impl<'a> List<'a> {
         let (address, space) = (draw.below(size), draw.below(5) as usize);
         assert_eq!(self.serve(draw, &write(size, &page), 5), 4);
         assert_eq!(self.serve(draw, &write(address, &page), space), 14);
-        assert_eq!(self.serve(draw, &revert(now), 5), 9);
-        assert_eq!(self.serve(draw, &revert(0), space), 14);
-        assert_eq!(self.serve(draw, &revert(now), 4), 14);
+        assert_eq!(self.serve(draw, &revert(now, 7), 5), 9);
+        assert_eq!(self.serve(draw, &revert(0, 65_535), space), 14);
+        assert_eq!(self.serve(draw, &revert(now, 0), 4), 14);
         assert_eq!(self.serve(draw, &write(size, &page), 4), 14);
     }
 
@@ -255,7 +260,7 @@ impl<'a> List<'a> {
             4 => read(draw.below(size), now),
             5 => reclaim(draw.within(floor, now)),
             6 => name(draw.within(floor, now), &page[..NAME_BYTES]),
-            _ => revert(now),
+            _ => revert(now, drawn_order(draw)),
         };
         let space = draw.one_of(&[PAGE_ANSWER_BYTES as u64, PAGE_ANSWER_BYTES as u64, 4]);
         self.serve(draw, &request, space as usize);
@@ -329,7 +334,7 @@ impl<'a> List<'a> {
 
         // Set back, partly copied, and the set-back undone.
         let first = self.now();
-        self.accepted(draw, &revert(0));
+        self.revert(draw, 0);
         let few = draw.within(1, size - 1);
         self.step(draw, few);
         self.turned_away(draw);
@@ -337,18 +342,18 @@ impl<'a> List<'a> {
         self.accepted(draw, &name(first, b"with all"));
         self.accepted(draw, &mark());
         self.accepted(draw, &reclaim(0));
-        self.accepted(draw, &revert(first));
+        self.revert(draw, first);
         let budget = draw.within(1, size + 1);
         self.copy_all(draw, budget);
 
         // Blank pages that have a page after the next revert; a current page before stale ones.
-        self.accepted(draw, &revert(0));
+        self.revert(draw, 0);
         self.step(draw, size + few);
-        self.accepted(draw, &revert(first));
+        self.revert(draw, first);
         self.write(draw, 0);
         self.step(draw, 1);
         self.accepted(draw, &reclaim(self.now()));
-        self.accepted(draw, &revert(0));
+        self.revert(draw, 0);
         self.write(draw, bare);
         self.copy_all(draw, few);
     }
@@ -435,7 +440,7 @@ fn budgets(host: &mut dyn Host, draw: &mut Draw, size: u32) {
     }
     list.run.batch(&mark(), &[0x55; ANSWER_BYTES], |_, _| {});
     for budget in [0, 1, 2, last, last + 1, last + 2, 65_537, u64::from(OPEN_END)] {
-        let again = [revert(0), write(last, &draw.bytes(PAGE))].concat();
+        let again = [revert(0, budget % 65_536), write(last, &draw.bytes(PAGE))].concat();
         list.run.batch(&again, &[0x55; 2 * ANSWER_BYTES], |_, _| {});
         let steps = if budget == 0 { 1 } else { u64::from(size).div_ceil(budget).min(2) };
         for turn in 0..steps {

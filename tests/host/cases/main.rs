@@ -7,13 +7,14 @@
 //! B batch area stop answered request-bytes answer-bytes rows-read after    a batch
 //! R address result area offset page    a live read; the page is an area of no bytes where there is none
 //! S budget result copied               a copying step
+//! O moment list result count after     the work orders of a moment; the list before and after
 //! C areas                              the lent areas as they must be
 //! E name                               the end of a family
 //! N line                               more to say of it
 //! Z differences                        the end: differences between reference and pile of pictures
 
 use cases::Host;
-use reference::{Areas, LiveRead, Report, Step};
+use reference::{Areas, Listing, LiveRead, Report, Step};
 use std::io::{BufWriter, StdoutLock, Write};
 
 struct Written {
@@ -96,6 +97,15 @@ impl Host for Written {
         self.number(u64::from(budget));
         self.number(u64::from(told.refusal));
         self.number(told.copied);
+    }
+
+    fn work_orders(&mut self, moment: u32, before: &[u8], told: &Listing, after: &[u8]) {
+        self.tag(b'O');
+        self.number(u64::from(moment));
+        self.area(before);
+        self.number(u64::from(told.refusal));
+        self.number(told.count);
+        self.area(after);
     }
 
     fn compare(&mut self, areas: &Areas) {

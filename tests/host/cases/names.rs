@@ -73,7 +73,7 @@ impl Draft {
             }
             Request::Reclaim { moment } => see(3, below(*moment) && answer.refusal == 8),
             Request::Read { moment, .. } => see(4, below(*moment) && answer.found.is_some()),
-            Request::Revert { moment } => see(5, below(*moment) && answer.refusal == 0),
+            Request::Revert { moment, .. } => see(5, below(*moment) && answer.refusal == 0),
             Request::Name { moment, .. } => {
                 see(6, below(*moment) && answer.refusal == 0);
                 see(8, all_given && answer.refusal == 15);
@@ -180,7 +180,7 @@ impl Draft {
         self.add(withdraw(&row.bytes));
         match draw.below(4) {
             0 => self.add(read(0, moment)),
-            1 => self.add(revert(moment)),
+            1 => self.add(revert(moment, drawn_order(draw))),
             2 => self.add(name(moment, &row.bytes)),
             _ => self.add(reclaim(self.outlook().floor)),
         };
@@ -204,7 +204,7 @@ impl Draft {
             }
             5 if !outlook.names.is_empty() => {
                 let row = outlook.names[draw.below(outlook.names.len() as u64) as usize];
-                self.add(revert(u64::from(row.moment)));
+                self.add(revert(u64::from(row.moment), drawn_order(draw)));
                 self.change(draw, 20);
             }
             6 => {
@@ -241,7 +241,7 @@ impl Draft {
             assert_eq!(report.stop, stop);
         }
         assert!(run.areas == self.areas, "a batch serves its requests as one batch for each would");
-        run.live_calls(draw, pile);
+        run.other_calls(draw, pile);
         self.seen
     }
 }
@@ -270,13 +270,13 @@ fn beginning(draft: &mut Draft, draw: &mut Draw) {
     let main = draw.below(draft.now());
     draft.name(draw, main);
     let back = draft.change(draw, 100);
-    draft.add(revert(draw.below(back)));
+    draft.add(revert(draw.below(back), drawn_order(draw)));
     let side = draft.change(draw, 50);
     let of_side = draft.name(draw, side);
     if draw.percent(30) {
         draft.change(draw, 20);
     }
-    draft.add(revert(back));
+    draft.add(revert(back, drawn_order(draw)));
     draft.change(draw, 100);
     draft.change(draw, 100);
     draft.add(reclaim(draft.now()));
@@ -286,7 +286,7 @@ fn beginning(draft: &mut Draft, draw: &mut Draw) {
     draft.add(reclaim(main));
     draft.add(reclaim(side));
     draft.name(draw, main);
-    draft.add(revert(main));
+    draft.add(revert(main, drawn_order(draw)));
     draft.change(draw, 20);
     draft.withdraw(draw, Name { bytes: of_side, moment: side as u32 });
     draft.add(reclaim(draft.outlook().floor));

@@ -154,17 +154,23 @@ pub fn break_row(areas: &mut Areas, row: usize, offence: &Offence, draw: &mut Dr
 // Refused before any record row is read
 
 /// Makes the branch rows or the names unsound.
-pub const UNSOUND: [fn(&mut Areas); 6] = [
+pub const UNSOUND: [fn(&mut Areas); 8] = [
     |areas| set_number_at(&mut areas.branches, 0, 1),
     |areas| set_number_at(&mut areas.branches, 2, 1),
     |areas| {
         let last = number_at(&areas.head, 1) as usize - 1;
-        set_number_at(&mut areas.branches, 3 * last + 1, OPEN_END - 1);
+        set_number_at(&mut areas.branches, 4 * last + 1, OPEN_END - 1);
     },
     |areas| {
         // The cut of the last row at its end.
         let last = number_at(&areas.head, 1) as usize - 1;
-        set_number_at(&mut areas.branches, 3 * last + 2, OPEN_END);
+        set_number_at(&mut areas.branches, 4 * last + 2, OPEN_END);
+    },
+    |areas| set_number_at(&mut areas.branches, 3, 1),
+    |areas| {
+        // A work order of more than 16 bits.
+        let last = number_at(&areas.head, 1) as usize - 1;
+        set_number_at(&mut areas.branches, 4 * last + 3, MOST_ORDER + 1);
     },
     |areas| {
         // A name for now.

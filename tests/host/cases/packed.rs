@@ -106,7 +106,7 @@ impl Draft {
             3 => self.add(reclaim(outlook.floor)),
             4 if outlook.floor > 0 => self.add(reclaim(draw.below(outlook.floor))), // 8
             5 => self.add(reclaim(outlook.now + draw.within(1, 3))),                 // 9
-            6 => self.add(revert(outlook.now)),                                      // 9
+            6 => self.add(revert(outlook.now, drawn_order(draw))),                   // 9
             7 => self.add(read(draw.below(outlook.size), outlook.now)),
             _ => 0,
         };
@@ -166,7 +166,7 @@ impl Draft {
         let area = draw.bytes(most_answer_bytes(&self.bytes));
         run.batch_beside(pile, &self.bytes, &area);
         assert!(run.areas == self.areas, "a batch serves its requests as one batch for each would");
-        run.live_calls(draw, pile);
+        run.other_calls(draw, pile);
         self.told
     }
 }

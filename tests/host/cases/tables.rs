@@ -1,6 +1,6 @@
 //! Tables drawn: sound ones of any shape, and damage to them.
 
-use crate::draw::Draw;
+use crate::draw::{drawn_order, Draw};
 use reference::*;
 use std::collections::BTreeSet;
 
@@ -86,7 +86,7 @@ fn drawn_names(draw: &mut Draw, rows: &[(u64, u64, u64)], now: u64, count: u64) 
     names
 }
 
-/// Areas with these branch rows, records and names, places in any order, and any bytes past the counts.
+/// Areas with these branch rows, any work orders, these records and names, places in any order, and any bytes past the counts.
 fn laid_out(
     draw: &mut Draw,
     sizes: &Sizes,
@@ -102,9 +102,10 @@ fn laid_out(
         places.swap(index, draw.below(index as u64 + 1) as usize);
     }
     for (row, (start, end, cut)) in rows.iter().enumerate() {
-        set_number_at(&mut areas.branches, 3 * row, *start as u32);
-        set_number_at(&mut areas.branches, 3 * row + 1, *end as u32);
-        set_number_at(&mut areas.branches, 3 * row + 2, *cut as u32);
+        let order = if row == 0 { 0 } else { drawn_order(draw) };
+        for (index, number) in [*start, *end, *cut, order].into_iter().enumerate() {
+            set_number_at(&mut areas.branches, 4 * row + index, number as u32);
+        }
     }
     areas.places.fill(0);
     for (row, (address, moment)) in pairs.iter().enumerate() {
@@ -280,7 +281,7 @@ pub fn change_number(draw: &mut Draw, areas: &mut Areas) {
     // Mostly one that is counted.
     let counted = match which {
         0 => 6,
-        1 => 3 * u64::from(head[1]),
+        1 => 4 * u64::from(head[1]),
         2 => 3 * u64::from(head[2]),
         4 => 3 * u64::from(head[5]),
         _ => 0,
@@ -306,9 +307,27 @@ pub fn change_number(draw: &mut Draw, areas: &mut Areas) {
     set_number_at(area, at, new);
 }
 
+/// A work order of more than 16 bits, or of the first row; in a row that is counted, mostly.
+fn change_order(draw: &mut Draw, areas: &mut Areas) {
+    let rows = (areas.branches.len() / BRANCH_BYTES) as u64;
+    if areas.head.len() < HEAD_BYTES || rows == 0 {
+        return;
+    }
+    let counted = u64::from(number_at(&areas.head, 1)).clamp(1, rows);
+    let row = match draw.below(4) {
+        0 => 0,
+        1 => counted - 1,
+        2 => draw.below(counted),
+        _ => draw.below(rows),
+    };
+    let any = draw.below(1 << 32);
+    let order = draw.one_of(&[0, 1, 65_535, 65_536, 65_537, 131_071, 16_777_216, 4_294_967_295, any]);
+    set_number_at(&mut areas.branches, 4 * row as usize + 3, order as u32);
+}
+
 fn swap_rows(draw: &mut Draw, areas: &mut Areas) {
     let which = draw.within(1, 4);
-    let width = if which == 3 { PLACE_BYTES } else { BRANCH_BYTES };
+    let width = [HEAD_BYTES, BRANCH_BYTES, RECORD_BYTES, PLACE_BYTES, NAME_ROW_BYTES][which as usize];
     let area = area_of(areas, which);
     let rows = (area.len() / width) as u64;
     if rows < 2 {
@@ -326,7 +345,8 @@ fn change_length(draw: &mut Draw, areas: &mut Areas) {
     let which = draw.below(8);
     let width = match which {
         0 => 24,
-        1 | 2 | 4 => 12,
+        1 => 16,
+        2 | 4 => 12,
         3 => 4,
         7 => 1,
         _ => 256,
@@ -398,7 +418,7 @@ fn change_names(draw: &mut Draw, areas: &mut Areas) {
         }
         3 => {
             let branch = draw.below((areas.branches.len() / BRANCH_BYTES) as u64) as usize;
-            let end = number_at(&areas.branches, 3 * branch + 1);
+            let end = number_at(&areas.branches, 4 * branch + 1);
             set_number_at(&mut areas.names, 3 * row + 2, end.wrapping_add(draw.below(3) as u32));
         }
         _ => {
@@ -409,7 +429,8 @@ fn change_names(draw: &mut Draw, areas: &mut Areas) {
 }
 
 pub fn damage(draw: &mut Draw, areas: &mut Areas) {
-    match draw.below(13) {
+    match draw.below(14) {
+        13 => change_order(draw, areas),
         12 => change_marks(draw, areas),
         10 | 11 => {
             for _ in 0..draw.one_of(&[1, 1, 1, 2, 3]) {

@@ -123,6 +123,10 @@ impl Host for Counting<'_> {
         self.host.copy_step(budget, told);
     }
 
+    fn work_orders(&mut self, moment: u32, before: &[u8], told: &Listing, after: &[u8]) {
+        self.host.work_orders(moment, before, told, after);
+    }
+
     fn batch(&mut self, batch: &[u8], before: &[u8], report: &Report, after: &[u8]) {
         self.host.batch(batch, before, report, after);
     }

@@ -53,10 +53,11 @@ fn any<'a>(areas: &'a mut Areas, draw: &mut Draw) -> &'a mut u8 {
     &mut areas.marks[at]
 }
 
-/// A batch, live reads and copying steps on these areas, for which this is due: a refusal, and the rows read.
-fn calls(run: &mut Run, draw: &mut Draw, areas: &Areas, due: (u32, usize)) {
+/// A batch, live reads, copying steps and listings on these areas, for which this is due: a refusal, and the rows read. A listing
+/// has no use for the live disk: it does not test 18.
+pub fn calls(run: &mut Run, draw: &mut Draw, areas: &Areas, due: (u32, usize)) {
     call(run, draw, areas.clone(), due);
-    let size = number_at(&areas.head, 0);
+    let size = areas.head.get(..4).map_or(0, |bytes| number_at(bytes, 0));
     for address in [0, size.wrapping_sub(1), size, 65_536, OPEN_END] {
         let told = run.live_read(&None, address);
         assert_eq!(told, LiveRead { refusal: due.0, area: AREA_NONE, offset: 0 }, "the case says what is due");
@@ -64,6 +65,19 @@ fn calls(run: &mut Run, draw: &mut Draw, areas: &Areas, due: (u32, usize)) {
     for budget in [0, 1, size, OPEN_END] {
         assert_eq!(run.copy_step(budget), Step { refusal: due.0, copied: 0 }, "the case says what is due");
     }
+    let number = |index: usize| areas.head.get(4 * index..4 * index + 4).map_or(0, |bytes| number_at(bytes, 0));
+    for (moment, space) in [(number(3), 2 * MOST_BRANCHES), (number(4), 2), (number(3), 0), (OPEN_END, 9)] {
+        let list = draw.bytes(space);
+        let (told, after) = run.work_orders(&None, moment, &list);
+        let ample = space >= ORDER_BYTES * number(1) as usize && moment <= number(3);
+        if due.0 != 18 {
+            assert_eq!(told, Listing { refusal: due.0, count: 0 }, "the case says what is due");
+        } else if ample {
+            assert_eq!(told.refusal, 0, "a listing does not look at the live disk");
+        }
+        assert!(told.refusal == 0 || after == list, "a refused call writes nothing");
+    }
+    run.compare();
     assert!(run.areas == *areas, "a refused call writes nothing");
 }
 

@@ -34,7 +34,7 @@ struct Made(Vec<(Branch, usize)>);
 
 impl Made {
     fn new() -> Made {
-        Made(vec![(Branch { start: 0, end: OPEN_END, cut: 0 }, 1)])
+        Made(vec![(Branch { start: 0, end: OPEN_END, cut: 0, order: 0 }, 1)])
     }
 
     /// A revert at now: the way from the new row is one row longer than that from its parent.
@@ -42,7 +42,7 @@ impl Made {
         let parent = self.0.partition_point(|(row, _)| row.start <= cut) - 1;
         let way = self.0[parent].1 + 1;
         self.0.last_mut().expect("the open row").0.end = now;
-        self.0.push((Branch { start: now + 1, end: OPEN_END, cut }, way));
+        self.0.push((Branch { start: now + 1, end: OPEN_END, cut, order: 0 }, way));
     }
 
     /// The rows on the way from now to the first.
@@ -72,7 +72,7 @@ fn requests_of_week(draw: &mut Draw, operator: &Operator, outlook: &Outlook, wee
         }
         bytes.extend(name(now, &(week / YEAR).to_be_bytes()));
     }
-    bytes.extend(revert(now));
+    bytes.extend(revert(now, week % 65_536));
     for _ in 0..2 {
         bytes.extend(read(draw.below(outlook.size), draw.within(outlook.floor, now + 2)));
     }
@@ -104,7 +104,7 @@ fn operate(host: &mut dyn Host, draw: &mut Draw, operator: &Operator, weeks: u64
             full = Some(week + 1);
         }
         if week % 13 % 4 == 3 || week + 1 == weeks {
-            run.live_calls(draw, pile);
+            run.other_calls(draw, pile);
             run.host.compare(&run.areas);
             if let Some(what) = pile.as_ref().and_then(|pile| pile.difference(&run.areas)) {
                 run.host.pile_differs(&what);

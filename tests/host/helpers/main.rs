@@ -1,14 +1,16 @@
-//! Writes requests and answers to standard output, each with its bytes, place tables, name tables and marks, for the test of
-//! include/kizmoolet_requests.h. Every number is eight bytes, least significant first; an area is its length and its bytes.
-//! Records:
+//! Writes requests and answers to standard output, each with its bytes, place tables, name tables, marks, lists of work orders and
+//! branch rows, for the test of include/kizmoolet_requests.h. Every number is eight bytes, least significant first; an area is its
+//! length and its bytes. Records:
 //! K numbers                                   the reference's sizes
-//! Q operation address moment behind bytes     a request as the reference reads these bytes; behind: the page or name, empty if
-//!                                             there is none
+//! Q operation address moment behind bytes     a request as the reference reads these bytes; the address of a revert is its work
+//!                                             order; behind: the page or name, empty if there is none
 //! A refusal number date page bytes            an answer and the bytes that the reference writes for it; date 0 and page
 //!                                             empty if there is none
 //! S places in-use                             a place table, and up to which byte the slab is in use
 //! N head names name row                       a head and a name table, and the row that has this name, or how many there are
 //! M marks stale after                         the marks of a live disk, how many pages are stale, and the marks once all are
+//! O list count numbers                        a list of work orders, and each of them
+//! W narrow wide                               branch rows of 12 bytes, and of 16 with work order 0
 //! Z                                           the end
 
 use reference::*;
@@ -55,7 +57,7 @@ fn request(out: &mut Out, drawn: &mut Drawn, operation: u64, between: u64) {
     let used = match operation {
         1 => 0xFFFF_0000_0000,
         2 => 0,
-        4 => 0xFFFF_FFFF_FFFF,
+        3 | 4 => 0xFFFF_FFFF_FFFF,
         7 => 0,
         _ => 0x0000_FFFF_FFFF,
     };
@@ -69,7 +71,7 @@ fn request(out: &mut Out, drawn: &mut Drawn, operation: u64, between: u64) {
     let (number, address, moment, behind) = match read_request(&bytes) {
         Ok((Request::Write { address, page }, 263)) => (1, address, 0, page),
         Ok((Request::Mark, 7)) => (2, 0, 0, Vec::new()),
-        Ok((Request::Revert { moment }, 7)) => (3, 0, moment, Vec::new()),
+        Ok((Request::Revert { moment, order }, 7)) => (3, order, moment, Vec::new()),
         Ok((Request::Read { address, moment }, 7)) => (4, address, moment, Vec::new()),
         Ok((Request::Reclaim { moment }, 7)) => (5, 0, moment, Vec::new()),
         Ok((Request::Name { moment, name }, 15)) => (6, 0, moment, name.to_vec()),
@@ -219,6 +221,33 @@ fn all_tables_of_marks(out: &mut Out, drawn: &mut Drawn) {
     }
 }
 
+/// Lists of no work order to 40, of any bytes and of few; one of the largest size.
+fn all_lists(out: &mut Out, drawn: &mut Drawn) {
+    for count in (0..41).chain([MOST_BRANCHES]) {
+        for mask in [0xFF, 0x01, 0x80, 0x00] {
+            let list: Vec<u8> = (0..ORDER_BYTES * count).map(|_| drawn.next() as u8 & mask).collect();
+            out.bytes(b"O");
+            out.area(&list);
+            out.number(count as u64);
+            for order in list.chunks_exact(ORDER_BYTES) {
+                out.number(u64::from(order[0]) * 256 + u64::from(order[1]));
+            }
+        }
+    }
+}
+
+/// Branch rows of 12 bytes, of any bytes: none, one, some, and as many as there can be.
+fn all_branch_rows(out: &mut Out, drawn: &mut Drawn) {
+    for rows in (0..60).chain([MOST_BRANCHES]) {
+        let narrow: Vec<u8> = (0..12 * rows).map(|_| drawn.next() as u8).collect();
+        let wide: Vec<u8> = narrow.chunks_exact(12).flat_map(|row| [row, &[0; 4]].concat()).collect();
+        assert_eq!(wide.len(), BRANCH_BYTES * rows);
+        out.bytes(b"W");
+        out.area(&narrow);
+        out.area(&wide);
+    }
+}
+
 fn main() {
     let seed = std::env::args().nth(1).and_then(|word| word.parse().ok()).expect("a seed");
     let mut drawn = Drawn(seed);
@@ -237,6 +266,9 @@ fn main() {
     }
     for number in [u32::from(CURRENT), u32::from(BLANK), AREA_NONE, AREA_DISK, AREA_SLAB] {
         out.number(u64::from(number));
+    }
+    for number in [ORDER_BYTES, MOST_ORDER as usize, ORDER_BYTES * MOST_BRANCHES] {
+        out.number(number as u64);
     }
     for operation in 1..=7 {
         // No bit, all bits, each bit alone, each bit missing, and any.
@@ -269,6 +301,8 @@ fn main() {
     all_place_tables(&mut out, &mut drawn);
     all_name_tables(&mut out, &mut drawn);
     all_tables_of_marks(&mut out, &mut drawn);
+    all_lists(&mut out, &mut drawn);
+    all_branch_rows(&mut out, &mut drawn);
     out.bytes(b"Z");
     if out.0.flush().is_err() {
         std::process::exit(2);

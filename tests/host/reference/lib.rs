@@ -1,4 +1,4 @@
-//! The page history store of document 01, with change requests One to Six of document 02, written from
+//! The page history store of document 01, with change requests One to Seven of document 02, written from
 //! these documents alone and as plainly as they read. It works on the same byte areas as the library that
 //! it is compared with: every number of head and tables is four bytes, most significant first. Each batch
 //! turns the bytes into rows, checks them, serves the requests on the rows and turns the rows back into
@@ -8,11 +8,14 @@
 pub const OPEN_END: u32 = 4_294_967_295;
 pub const PAGE: usize = 256;
 pub const HEAD_BYTES: usize = 24;
-pub const BRANCH_BYTES: usize = 12;
+pub const BRANCH_BYTES: usize = 16;
 pub const RECORD_BYTES: usize = 12;
 pub const PLACE_BYTES: usize = 4;
 pub const NAME_BYTES: usize = 8;
 pub const NAME_ROW_BYTES: usize = NAME_BYTES + 4;
+/// A work order in a list, and the highest that there is.
+pub const ORDER_BYTES: usize = 2;
+pub const MOST_ORDER: u32 = 65_535;
 /// An answer, a found page's date, and an answer with date and page.
 pub const ANSWER_BYTES: usize = 5;
 pub const DATE_BYTES: usize = 4;
@@ -50,6 +53,8 @@ pub struct Branch {
     pub start: u32,
     pub end: u32,
     pub cut: u32,
+    /// The work order that the revert quoted which made this branch.
+    pub order: u32,
 }
 
 #[derive(Clone, Copy, Debug, PartialEq, Eq)]
@@ -104,11 +109,18 @@ pub struct Step {
     pub copied: u64,
 }
 
+/// What a listing tells: a refusal, or 0 and how many work orders the list has.
+#[derive(Clone, Copy, Debug, PartialEq, Eq, Default)]
+pub struct Listing {
+    pub refusal: u32,
+    pub count: u64,
+}
+
 #[derive(Clone, Debug, PartialEq, Eq)]
 pub enum Request {
     Write { address: u32, page: Vec<u8> },
     Mark,
-    Revert { moment: u32 },
+    Revert { moment: u32, order: u32 },
     Read { address: u32, moment: u32 },
     Reclaim { moment: u32 },
     Name { moment: u32, name: [u8; NAME_BYTES] },
@@ -142,7 +154,7 @@ pub enum Change {
     Nothing,
     Write { address: u32, page: Vec<u8> },
     Mark,
-    Revert { cut: u32 },
+    Revert { cut: u32, order: u32 },
     Reclaim { floor: u32, kept: Kept },
     Name { name: Name },
     Withdraw { row: usize },
@@ -208,7 +220,12 @@ fn rows_of(areas: &mut Areas) -> Store {
     };
     let mut branches = Vec::new();
     for row in areas.branches.chunks_exact(BRANCH_BYTES) {
-        branches.push(Branch { start: number_at(row, 0), end: number_at(row, 1), cut: number_at(row, 2) });
+        branches.push(Branch {
+            start: number_at(row, 0),
+            end: number_at(row, 1),
+            cut: number_at(row, 2),
+            order: number_at(row, 3),
+        });
     }
     let mut records = Vec::new();
     for row in areas.records.chunks_exact(RECORD_BYTES) {
@@ -247,6 +264,7 @@ fn bytes_of(store: Store, areas: &mut Areas) {
         set_number_at(row, 0, branch.start);
         set_number_at(row, 1, branch.end);
         set_number_at(row, 2, branch.cut);
+        set_number_at(row, 3, branch.order);
     }
     for (row, record) in areas.records.chunks_exact_mut(RECORD_BYTES).zip(&store.records) {
         set_number_at(row, 0, record.address);
@@ -333,6 +351,10 @@ impl Store {
         if rows[0].start != 0 || rows[0].cut != 0 {
             return false;
         }
+        // The first row has work order 0, and no row has more than 65,535.
+        if rows[0].order != 0 || rows.iter().any(|row| row.order > MOST_ORDER) {
+            return false;
+        }
         for i in 0..rows.len() {
             // Each start is at most its end.
             if rows[i].start > rows[i].end {
@@ -405,9 +427,9 @@ impl Store {
         self.disk.len() == PAGE * size && self.marks.len() == size && self.marks.iter().all(|mark| *mark <= 3)
     }
 
-    /// The check before a call: 0, or the refusal 1, 2, 3 or 18, the first in this order that holds; and how many record rows
-    /// it read (document 02, Five): up to and including the first that breaks a rule, else all; 0 where 1 or 2 refuses.
-    fn check(&self) -> (u32, usize) {
+    /// The table checks: 0, or the refusal 1, 2 or 3, the first in this order that holds; and how many record rows were
+    /// read (document 02, Five): up to and including the first that breaks a rule, else all; 0 where 1 or 2 refuses.
+    fn check_tables(&self) -> (u32, usize) {
         if !self.head_allowed() {
             return (1, 0);
         }
@@ -418,8 +440,15 @@ impl Store {
         match (0..all).find(|row| self.record_breaks(*row)) {
             Some(row) => (3, row + 1),
             None if self.places_in_use() != all => (3, all),
-            None if !self.disk_fits() => (18, all),
             None => (0, all),
+        }
+    }
+
+    /// The check before a call that is lent the live disk: the table checks, then 18.
+    fn check(&self) -> (u32, usize) {
+        match self.check_tables() {
+            (0, all) if !self.disk_fits() => (18, all),
+            checked => checked,
         }
     }
 
@@ -495,6 +524,32 @@ impl Store {
                 return found;
             }
             moment = self.branches[branch].cut;
+        }
+    }
+
+    /// The work orders from the branch of the moment up to and with the first row, nearest first. A branch's cut lies inside an
+    /// earlier row, so each row of the way is met in one walk up the table: the row that holds the moment, then the row that holds
+    /// its cut, and so on. The moment lies inside a counted row.
+    pub fn orders_from(&self, moment: u32) -> Vec<u32> {
+        let mut orders = Vec::new();
+        let mut sought = moment;
+        for row in self.counted_branches().iter().rev() {
+            if row.start <= sought && sought <= row.end {
+                orders.push(row.order);
+                sought = row.cut;
+            }
+        }
+        orders
+    }
+
+    /// The refusal of a listing at this moment, or 0.
+    fn listing_refusal(&self, moment: u32) -> u32 {
+        if moment < self.head.floor && !self.is_named(moment) {
+            8
+        } else if moment > self.head.now {
+            9
+        } else {
+            0
         }
     }
 
@@ -608,8 +663,8 @@ impl Store {
         }
     }
 
-    /// Where a row goes, each child takes over its cut: the rows go one by one, newest first, and the child of a child
-    /// that has gone is a child by then. (Any order gives the same rows.) The rows behind close the gap, and the
+    /// Where a row goes, each child takes over its cut, and keeps its own work order: the rows go one by one, newest first, and the
+    /// child of a child that has gone is a child by then. (Any order gives the same rows.) The rows behind close the gap, and the
     /// row that is vacated becomes zero.
     pub fn take_out(&mut self, row: usize) {
         let gone = self.branches[row];
@@ -620,7 +675,7 @@ impl Store {
             }
         }
         self.branches.copy_within(row + 1..count, row);
-        self.branches[count - 1] = Branch { start: 0, end: 0, cut: 0 };
+        self.branches[count - 1] = Branch { start: 0, end: 0, cut: 0, order: 0 };
         self.head.branch_count -= 1;
     }
 
@@ -686,11 +741,12 @@ impl Store {
         self.put_on_disk(address, page);
     }
 
-    fn revert(&mut self, moment: u32) {
+    /// The new branch has the work order that the revert quotes.
+    fn revert(&mut self, moment: u32, order: u32) {
         let count = self.head.branch_count as usize;
         self.branches[count - 1].end = self.head.now;
         self.head.now += 1;
-        self.branches[count] = Branch { start: self.head.now, end: OPEN_END, cut: moment };
+        self.branches[count] = Branch { start: self.head.now, end: OPEN_END, cut: moment, order };
         self.head.branch_count += 1;
         self.make_stale();
     }
@@ -779,7 +835,7 @@ impl Store {
                     0
                 }
             }
-            Request::Revert { moment } => {
+            Request::Revert { moment, .. } => {
                 if *moment < head.floor && !self.is_named(*moment) {
                     8
                 } else if *moment >= head.now {
@@ -842,7 +898,7 @@ impl Store {
         let change = match request {
             Request::Write { address, page } => Change::Write { address: *address, page: page.clone() },
             Request::Mark => Change::Mark,
-            Request::Revert { moment } => Change::Revert { cut: *moment },
+            Request::Revert { moment, order } => Change::Revert { cut: *moment, order: *order },
             Request::Read { address, moment } => {
                 answer.number = *moment;
                 let row = self.find(*address, *moment);
@@ -872,7 +928,7 @@ impl Store {
             Change::Nothing => {}
             Change::Write { address, page } => self.write(address, &page),
             Change::Mark => self.head.now += 1,
-            Change::Revert { cut } => self.revert(cut),
+            Change::Revert { cut, order } => self.revert(cut, order),
             Change::Reclaim { floor, kept } => self.reclaim(floor, &kept),
             Change::Name { name } => self.give(name),
             Change::Withdraw { row } => self.withdraw(row),
@@ -899,8 +955,8 @@ pub fn read_request(bytes: &[u8]) -> Result<(Request, usize), u32> {
     if operation == 0 {
         return Err(12);
     }
-    // Fields that an operation does not use count as spare.
-    let uses_address = operation == 1 || operation == 4;
+    // Fields that an operation does not use count as spare. The address of a revert is its work order.
+    let uses_address = operation == 1 || operation == 3 || operation == 4;
     let uses_moment = operation == 3 || operation == 4 || operation == 5 || operation == 6;
     if spare != 0 || (!uses_address && address != 0) || (!uses_moment && moment != 0) {
         return Err(13);
@@ -913,7 +969,7 @@ pub fn read_request(bytes: &[u8]) -> Result<(Request, usize), u32> {
             Ok((Request::Write { address, page: bytes[7..7 + PAGE].to_vec() }, 7 + PAGE))
         }
         2 => Ok((Request::Mark, 7)),
-        3 => Ok((Request::Revert { moment }, 7)),
+        3 => Ok((Request::Revert { moment, order: address }, 7)),
         4 => Ok((Request::Read { address, moment }, 7)),
         5 => Ok((Request::Reclaim { moment }, 7)),
         _ => {
@@ -940,7 +996,7 @@ pub fn answer_bytes(answer: &Answer) -> Vec<u8> {
 }
 
 // ---------------------------------------------------------------------------------------------
-// The three calls
+// The calls
 
 /// The store in these areas, with slab and live disk handed over, or the refusal; and how many record rows the check read.
 fn checked(areas: &mut Areas) -> (Result<Store, u32>, usize) {
@@ -954,6 +1010,43 @@ fn checked(areas: &mut Areas) -> (Result<Store, u32>, usize) {
         return (Err(refused), rows_read);
     }
     (Ok(store), rows_read)
+}
+
+/// The same for a call that is not lent the live disk.
+fn checked_tables(areas: &mut Areas) -> Result<Store, u32> {
+    if !lengths_allowed(areas) {
+        return Err(1);
+    }
+    let store = rows_of(areas);
+    match store.check_tables().0 {
+        0 => Ok(store),
+        refusal => {
+            hand_back(store, areas);
+            Err(refusal)
+        }
+    }
+}
+
+/// The work orders of a moment, two bytes each, high byte first. Only the list is changed, and that only where it is given out.
+pub fn work_orders(areas: &mut Areas, moment: u32, list: &mut [u8]) -> Listing {
+    let store = match checked_tables(areas) {
+        Ok(store) => store,
+        Err(refusal) => return Listing { refusal, ..Listing::default() },
+    };
+    let refusal = store.listing_refusal(moment);
+    let orders = if refusal == 0 { store.orders_from(moment) } else { Vec::new() };
+    hand_back(store, areas);
+    if refusal != 0 {
+        return Listing { refusal, ..Listing::default() };
+    }
+    if ORDER_BYTES * orders.len() > list.len() {
+        return Listing { refusal: 14, ..Listing::default() };
+    }
+    for (to, order) in list.chunks_exact_mut(ORDER_BYTES).zip(&orders) {
+        to[0] = (order / 256) as u8;
+        to[1] = (order % 256) as u8;
+    }
+    Listing { refusal: 0, count: orders.len() as u64 }
 }
 
 /// Where the page of an address lies, as it is at now. Nothing is changed: slab and live disk are only handed over and back.

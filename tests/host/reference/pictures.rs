@@ -1,4 +1,5 @@
-//! The pile of pictures of document 01, with the names of document 02, Three: a whole picture for each moment.
+//! The pile of pictures of document 01, with the names of document 02, Three, and the work orders of Seven: a whole picture for
+//! each moment.
 //! It is fed the answered requests and, of each answer, only whether it is a refusal.
 
 use crate::{dated_page, live_read, page_told, Answer, Areas, DatedPage, Name, Request};
@@ -8,6 +9,17 @@ use std::rc::Rc;
 /// For each address no page, or its bytes with the moment of their write, which is their date.
 type Picture = Vec<Option<Rc<DatedPage>>>;
 
+/// A branch as the work orders need it: it never forgets which branch it was made from.
+struct Made {
+    order: u32,
+    /// The branch that the revert went back to; the first branch is its own.
+    parent: usize,
+    /// Its last moment, once it is left.
+    last: Option<u32>,
+    /// A reclaim has taken its row out.
+    gone: bool,
+}
+
 pub struct Pile {
     pub now: u32,
     pub floor: u32,
@@ -15,11 +27,22 @@ pub struct Pile {
     pub held: BTreeSet<(u32, u32)>,
     /// In the order given.
     pub names: Vec<Name>,
+    /// Every branch that was ever made, and for each moment the one that it belongs to.
+    made: Vec<Made>,
+    branch_of: Vec<usize>,
 }
 
 impl Pile {
     pub fn new(size: u32) -> Pile {
-        Pile { now: 0, floor: 0, pictures: vec![vec![None; size as usize]], held: BTreeSet::new(), names: Vec::new() }
+        Pile {
+            now: 0,
+            floor: 0,
+            pictures: vec![vec![None; size as usize]],
+            held: BTreeSet::new(),
+            names: Vec::new(),
+            made: vec![Made { order: 0, parent: 0, last: None, gone: false }],
+            branch_of: vec![0],
+        }
     }
 
     /// Takes one answered request; the result is the answer that the documents claim, if they claim one:
@@ -38,10 +61,12 @@ impl Pile {
             }
             Request::Mark => {
                 self.add_copy(before);
+                self.branch_of.push(self.made.len() - 1);
                 accepted(before)
             }
-            Request::Revert { moment } => {
+            Request::Revert { moment, order } => {
                 self.add_copy(*moment);
+                self.add_branch(*moment, *order);
                 accepted(before)
             }
             Request::Reclaim { moment } => {
@@ -49,6 +74,7 @@ impl Pile {
                 let shown = self.shown();
                 let held_before = self.held.len();
                 self.held.retain(|pair| shown.contains(pair));
+                self.take_branches_out();
                 accepted((held_before - self.held.len()) as u32)
             }
             Request::Name { moment, name } => {
@@ -78,7 +104,42 @@ impl Pile {
         self.now += 1;
     }
 
-    fn can_read(&self, moment: u32) -> bool {
+    /// The moment that a revert begins belongs to a new branch, made from the branch of the moment that it went back to.
+    fn add_branch(&mut self, moment: u32, order: u32) {
+        self.made.last_mut().expect("the open branch").last = Some(self.now - 1);
+        self.branch_of.push(self.made.len());
+        self.made.push(Made { order, parent: self.branch_of[moment as usize], last: None, gone: false });
+    }
+
+    /// The rows that a reclaim does not keep (document 02, Four): it keeps the first, those that end at or above the floor, and
+    /// those of named moments and held pages.
+    fn take_branches_out(&mut self) {
+        let moments = self.names.iter().map(|name| name.moment).chain(self.held.iter().map(|(_, moment)| *moment));
+        let stays: BTreeSet<usize> = moments.map(|moment| self.branch_of[moment as usize]).collect();
+        for branch in 1..self.made.len() {
+            let ended = self.made[branch].last.is_some_and(|last| last < self.floor);
+            self.made[branch].gone |= ended && !stays.contains(&branch);
+            // Those that are gone are passed by, also later: no moment of theirs is readable again.
+            let parent = self.made[branch].parent;
+            if self.made[parent].gone {
+                self.made[branch].parent = self.made[parent].parent;
+            }
+        }
+    }
+
+    /// The work orders of a readable moment: of its branch, of the branch that this was made from, and so on, without those
+    /// that are gone.
+    pub fn orders(&self, moment: u32) -> Vec<u32> {
+        let mut branch = self.branch_of[moment as usize];
+        let mut orders = vec![self.made[branch].order];
+        while branch != 0 {
+            branch = self.made[branch].parent;
+            orders.push(self.made[branch].order);
+        }
+        orders
+    }
+
+    pub fn can_read(&self, moment: u32) -> bool {
         (self.floor..=self.now).contains(&moment) || self.names.iter().any(|name| name.moment == moment)
     }
 
@@ -137,6 +198,9 @@ impl Pile {
             return Some("held pairs".to_string());
         }
         for moment in self.readable() {
+            if store.orders_from(moment) != self.orders(moment) {
+                return Some(format!("work orders at moment {moment}"));
+            }
             for address in 0..store.head.size {
                 let row = store.find(address, moment);
                 let found = row.map(|row| dated_page(&store.records[row], &areas.slab));

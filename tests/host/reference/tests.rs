@@ -42,6 +42,11 @@ fn revert(moment: u64) -> Vec<u8> {
     packed(3, 0, moment)
 }
 
+/// A revert with a work order.
+fn revert_by(moment: u64, order: u64) -> Vec<u8> {
+    packed(3, order, moment)
+}
+
 fn read(address: u64, moment: u64) -> Vec<u8> {
     packed(4, address, moment)
 }
@@ -113,8 +118,8 @@ fn session() {
     assert_eq!(answers(&mut store, &[reclaim(4)]), [(0, 1, None)]); // P9
     assert_eq!(number_at(&store.head, 1), 2);
     let left = rows(&store);
-    assert_eq!(left.counted_branches()[1], Branch { start: 4, end: OPEN_END, cut: 2 });
-    assert!(left.branches[2..].iter().all(|row| (row.start, row.end, row.cut) == (0, 0, 0)));
+    assert_eq!(left.counted_branches()[1], Branch { start: 4, end: OPEN_END, cut: 2, order: 0 });
+    assert!(left.branches[2..].iter().all(|row| (row.start, row.end, row.cut, row.order) == (0, 0, 0, 0)));
     assert!(left.records[1..].iter().all(|row| (row.address, row.moment, row.place) == (0, 0, 0)));
     assert_eq!(left.places.iter().filter(|place| **place != 0).count(), 1);
     assert_eq!(store.slab, slab);
@@ -159,10 +164,15 @@ fn set_head(areas: &mut Areas, numbers: [u32; 6]) {
     }
 }
 
+/// Start, end and cut; the work order becomes 0.
 fn set_branch(areas: &mut Areas, row: usize, numbers: [u32; 3]) {
-    for (index, number) in numbers.iter().enumerate() {
-        set_number_at(&mut areas.branches, 3 * row + index, *number);
+    for (index, number) in numbers.iter().chain(&[0]).enumerate() {
+        set_number_at(&mut areas.branches, 4 * row + index, *number);
     }
+}
+
+fn set_order(areas: &mut Areas, row: usize, order: u32) {
+    set_number_at(&mut areas.branches, 4 * row + 3, order);
 }
 
 #[test]
@@ -342,7 +352,7 @@ fn drawn_store(draw: &mut Drawn) -> Areas {
         let request = match draw.below(13) {
             0..=3 => write(draw.below(5), b'x'),
             4 => mark(),
-            5..=7 => revert(moment),
+            5..=7 => revert_by(moment, draw.below(65_536)),
             8 => reclaim(floor + draw.below(2)),
             9 => reclaim(floor),
             10 | 11 => name(moment, b'a' + draw.below(6) as u8),
@@ -640,7 +650,7 @@ fn a_revert_with_now_at_the_floor() {
     answers(&mut store, &[name(0, b'x'), reclaim(3)]);
     assert_eq!(answers(&mut store, &[revert(0), read(5, 4)]), [(0, 3, None), (0, 4, Some((b'A', 0)))]);
     // The cut lies below the floor.
-    assert_eq!(rows(&store).counted_branches()[1], Branch { start: 4, end: OPEN_END, cut: 0 });
+    assert_eq!(rows(&store).counted_branches()[1], Branch { start: 4, end: OPEN_END, cut: 0, order: 0 });
     // A moment that has just been sealed can be named; reclaimed past, it can still be reverted to.
     assert_eq!(answers(&mut store, &[name(3, b'y'), reclaim(4), revert(3), read(5, 5)])[3], (0, 5, Some((b'C', 2))));
     assert_eq!(check(&store), 0);
@@ -852,7 +862,8 @@ fn stays(row: &Branch, floor: u32, named: &[u32], kept: &[Record]) -> bool {
         || kept.iter().any(|record| holds(record.moment))
 }
 
-/// On tables of any shape: what stays, its starts and ends; the order in which rows go; the pictures of readable moments.
+/// On tables of any shape: what stays, its starts, ends and work orders; the order in which rows go; the pictures of readable
+/// moments.
 #[test]
 fn rows_go_in_any_order() {
     let draw = &mut Drawn(2);
@@ -866,8 +877,8 @@ fn rows_go_in_any_order() {
         let after = rows(&after);
         let named: Vec<u32> = before.counted_names().iter().map(|name| name.moment).collect();
         let stay = |row: &&Branch| stays(row, floor, &named, after.counted_records());
-        let ends = |row: &Branch| (row.start, row.end);
-        let due: Vec<(u32, u32)> = before.counted_branches().iter().filter(stay).map(ends).collect();
+        let ends = |row: &Branch| (row.start, row.end, row.order);
+        let due: Vec<(u32, u32, u32)> = before.counted_branches().iter().filter(stay).map(ends).collect();
         assert_eq!(after.counted_branches().iter().map(ends).collect::<Vec<_>>(), due);
 
         let leaving = before.counted_branches().iter().filter(|row| !stay(row));
@@ -1130,7 +1141,7 @@ fn all_else_leaves_the_live_disk() {
         (revert(0), 14),
         (write(3, b'x')[..262].to_vec(), 11),
         (vec![0; 7], 12),
-        (packed(3, 1, 0), 13),
+        (packed(5, 1, 0), 13),
     ] {
         let mut after = store.clone();
         assert_eq!(batch(&mut after, &bytes, &mut [0; 4]).stop, stop);
@@ -1296,9 +1307,261 @@ fn drawn_request_of_six(draw: &mut Drawn, store: &Areas) -> Vec<u8> {
     match draw.below(9) {
         0..=3 => write(draw.below(6), b'a' + draw.below(26) as u8),
         4 => mark(),
-        5 => revert(moment),
+        5 => revert_by(moment, draw.below(65_536)),
         6 => reclaim(moment),
         7 => name(moment, b'a' + draw.below(3) as u8),
         _ => withdraw(b'a' + draw.below(3) as u8),
+    }
+}
+
+// ---------------------------------------------------------------------------------------------
+// Document 02, Seven: work order on a revert
+
+/// The listing of a moment with ample space: its refusal and its work orders. It changes nothing, and its list is as long as it
+/// says; with a byte less, two or none it is 14.
+fn listed(areas: &mut Areas, moment: u32) -> (u32, Vec<u32>) {
+    let before = areas.clone();
+    let mut list = [0x77; 40];
+    let told = work_orders(areas, moment, &mut list);
+    let length = 2 * told.count as usize;
+    assert!(list[length..].iter().all(|byte| *byte == 0x77));
+    assert!((told.refusal == 0) == (told.count > 0));
+    for space in [0, 1, length.saturating_sub(2), length.saturating_sub(1)] {
+        let mut short = [0x77; 40];
+        let refusal = if told.refusal == 0 { 14 } else { told.refusal };
+        if space < length || told.refusal != 0 {
+            assert_eq!(work_orders(areas, moment, &mut short[..space]), Listing { refusal, count: 0 });
+        }
+        assert_eq!(short, [0x77; 40]);
+    }
+    let mut exact = vec![0x77; length];
+    if told.refusal == 0 {
+        assert_eq!((work_orders(areas, moment, &mut exact), &exact[..]), (told, &list[..length]));
+    }
+    assert_eq!(before, *areas);
+    let pairs = list[..length].chunks_exact(2);
+    (told.refusal, pairs.map(|pair| u32::from(pair[0]) << 8 | u32::from(pair[1])).collect())
+}
+
+fn orders_of(areas: &mut Areas, moment: u32) -> Vec<u32> {
+    let (refusal, orders) = listed(areas, moment);
+    assert_eq!(refusal, 0);
+    orders
+}
+
+#[test]
+fn a_fresh_store_lists_the_first_row() {
+    let mut store = made(6, 3, 2, 2);
+    assert_eq!(listed(&mut store, 0), (0, vec![0]));
+    assert_eq!(listed(&mut store, 1), (9, vec![]));
+    assert_eq!(listed(&mut store, OPEN_END), (9, vec![]));
+    assert_eq!(store.branches[..16], [0, 0, 0, 0, 255, 255, 255, 255, 0, 0, 0, 0, 0, 0, 0, 0]);
+    assert!(store.branches[16..].iter().all(|byte| *byte == 0));
+}
+
+#[test]
+fn the_row_of_a_revert_has_its_work_order() {
+    let mut store = made(6, 3, 2, 2);
+    let told = answers(&mut store, &[mark(), revert_by(0, 0x1234), mark(), revert_by(2, 0xFFFF)]);
+    assert_eq!(told, [(0, 0, None), (0, 1, None), (0, 2, None), (0, 3, None)]);
+    assert_eq!(store.branches[16..32], [0, 0, 0, 2, 0, 0, 0, 3, 0, 0, 0, 0, 0, 0, 0x12, 0x34]);
+    assert_eq!(store.branches[32..48], [0, 0, 0, 4, 255, 255, 255, 255, 0, 0, 0, 2, 0, 0, 0xFF, 0xFF]);
+    // The listing: nearest first, high byte first, the first row last.
+    let mut list = [0x77; 7];
+    assert_eq!(work_orders(&mut store, 4, &mut list), Listing { refusal: 0, count: 3 });
+    assert_eq!(list, [0xFF, 0xFF, 0x12, 0x34, 0, 0, 0x77]);
+    assert_eq!([0, 1].map(|moment| orders_of(&mut store, moment)), [vec![0], vec![0]]);
+    assert_eq!([2, 3].map(|moment| orders_of(&mut store, moment)), [vec![0x1234, 0], vec![0x1234, 0]]);
+}
+
+/// Any value of 16 bits, whatever the size of the volume; 13 looks at the spare bits alone.
+#[test]
+fn any_work_order_is_taken() {
+    for order in [0, 1, 5, 6, 7, 255, 256, 32_768, 65_534, 65_535] {
+        let mut store = made(6, 2, 2, 2);
+        assert_eq!(answers(&mut store, &[mark(), revert_by(0, order)])[1], (0, 1, None));
+        assert_eq!(orders_of(&mut store, 2), [order as u32, 0]);
+        // Refused: 9, 7; and not carried out for a spare bit, or for want of space.
+        let before = store.clone();
+        assert_eq!(answers(&mut store, &[revert_by(2, order), revert_by(1, order)]), [(9, 0, None), (7, 0, None)]);
+        let mut spare = revert_by(0, order);
+        spare[6] |= 1;
+        assert_eq!(batch(&mut store, &spare, &mut [0; 9]).stop, 13);
+        assert_eq!(batch(&mut store, &revert_by(0, order), &mut [0; 4]).stop, 14);
+        assert_eq!(store, before);
+    }
+    let mut store = made(6, 2, 2, 2);
+    let list = [mark(), mark(), reclaim(1), revert_by(0, 9)];
+    assert_eq!(answers(&mut store, &list)[3], (8, 0, None));
+    set_number_at(&mut store.head, 3, OPEN_END);
+    assert_eq!(answers(&mut store, &[revert_by(1, 9)]), [(10, 0, None)]);
+    // The address of the others still counts as spare.
+    for operation in [2, 5, 6, 7] {
+        assert_eq!(stop(&[packed(operation, 1, 0), vec![1; 8]].concat(), 100).stop, 13);
+    }
+}
+
+/// A side branch, a set-back undone, moments before and behind a cut.
+#[test]
+fn listings_go_by_the_cuts() {
+    let mut store = made(6, 8, 2, 2);
+    answers(&mut store, &[mark(), mark(), revert_by(0, 10), mark(), revert_by(2, 20), mark(), revert_by(4, 30)]);
+    // Rows: 0 to 2; 3 and 4, cut at 0; 5 and 6, cut at 2; from 7 on, cut at 4.
+    assert_eq!(branches_of(&store), [(0, 2, 0), (3, 4, 0), (5, 6, 2), (7, OPEN_END, 4)]);
+    let due = [(0, vec![0]), (2, vec![0]), (3, vec![10, 0]), (4, vec![10, 0]), (5, vec![20, 0]), (7, vec![30, 10, 0])];
+    for (moment, orders) in due {
+        assert_eq!(orders_of(&mut store, moment), orders);
+    }
+}
+
+/// Of every listing exactly the orders of the rows that stay; who takes over a cut keeps its own work order.
+#[test]
+fn rows_that_go_leave_the_listings() {
+    let mut store = made(6, 8, 4, 4);
+    answers(&mut store, &[mark(), revert_by(0, 10), mark(), name(2, b'n'), revert_by(2, 20), mark(), revert_by(4, 30)]);
+    answers(&mut store, &[write(1, b'A'), mark(), revert_by(6, 40), mark(), revert_by(8, 50)]);
+    let all = [50, 40, 30, 20, 10, 0];
+    for moment in 0..11 {
+        assert_eq!(orders_of(&mut store, moment), all[5 - moment as usize / 2..]);
+    }
+    answers(&mut store, &[reclaim(0)]);
+    assert_eq!(orders_of(&mut store, 10), all);
+    // 20 and 40 go: the row with the page, and the open one, have another cut, and their own work orders.
+    reclaims(&mut store, 10, 0);
+    assert_eq!(branches_of(&store), [(0, 1, 0), (2, 3, 0), (6, 7, 2), (10, OPEN_END, 6)]);
+    assert_eq!(orders_of(&mut store, 10), [50, 30, 10, 0]);
+    assert_eq!(orders_of(&mut store, 2), [10, 0]);
+    assert_eq!([0, 1, 3, 9, 11].map(|moment| listed(&mut store, moment).0), [8, 8, 8, 8, 9]);
+    // A withdrawal changes no listing; the row goes with the next reclaim.
+    answers(&mut store, &[withdraw(b'n')]);
+    assert_eq!((listed(&mut store, 2).0, orders_of(&mut store, 10)), (8, vec![50, 30, 10, 0]));
+    reclaims(&mut store, 10, 0);
+    assert_eq!(orders_of(&mut store, 10), [50, 30, 0]);
+    assert_eq!(branches_of(&store), [(0, 1, 0), (6, 7, 0), (10, OPEN_END, 6)]);
+}
+
+#[test]
+fn a_named_moment_below_the_floor_is_listed() {
+    let mut store = made(6, 8, 4, 4);
+    answers(&mut store, &[mark(), revert_by(0, 10), mark(), name(2, b'n'), revert_by(2, 20), mark(), reclaim(5)]);
+    assert_eq!([1, 2, 3, 4, 5, 6].map(|moment| listed(&mut store, moment).0), [8, 0, 8, 8, 0, 9]);
+    assert_eq!(orders_of(&mut store, 2), [10, 0]);
+    answers(&mut store, &[revert_by(2, 30)]);
+    assert_eq!((orders_of(&mut store, 6), orders_of(&mut store, 5)), (vec![30, 10, 0], vec![20, 10, 0]));
+}
+
+/// 2 for the first row's work order and for one of more than 16 bits, before 3 and 18 and after 1, in every call; rows past the
+/// count hold anything.
+#[test]
+fn work_orders_of_table_check_2() {
+    let sound = {
+        let mut store = made(6, 4, 4, 4);
+        answers(&mut store, &[write(1, b'A'), mark(), revert_by(0, 65_535), mark(), revert_by(2, 1)]);
+        store
+    };
+    let refused = |areas: &Areas, refusal: u32| {
+        let mut after = areas.clone();
+        let mut area = [0x77; 300];
+        assert_eq!(batch(&mut after, &write(0, b'x'), &mut area), Report { stop: refusal, ..Report::default() });
+        assert_eq!(live_read(&mut after, 0), LiveRead { refusal, area: 0, offset: 0 });
+        assert_eq!(copy_step(&mut after, 9), Step { refusal, copied: 0 });
+        assert_eq!([0, 4, 5].map(|moment| listed(&mut after, moment)), [0; 3].map(|_| (refusal, vec![])));
+        assert!(after == *areas && area == [0x77; 300]);
+    };
+    let orders = [(0, 1), (0, 65_535), (0, 65_536), (1, 65_536), (1, OPEN_END), (2, 65_536), (2, 1 << 31)];
+    for (row, order) in orders {
+        let mut areas = sound.clone();
+        set_order(&mut areas, row, order);
+        refused(&areas, 2);
+        set_number_at(&mut areas.records, 0, 6);
+        refused(&areas, 2);
+        areas.marks[0] = 4;
+        refused(&areas, 2);
+        set_number_at(&mut areas.head, 4, 5);
+        refused(&areas, 1);
+    }
+    let mut areas = sound.clone();
+    set_order(&mut areas, 3, OPEN_END);
+    assert_eq!((check(&areas), orders_of(&mut areas, 4)), (0, vec![1, 65_535, 0]));
+    for order in [0, 65_534, 65_535] {
+        set_order(&mut areas, 2, order);
+        assert_eq!((check(&areas), orders_of(&mut areas, 4)), (0, vec![order, 65_535, 0]));
+    }
+}
+
+/// 1, 2, 3, then 8, then 9, then 14; never 18.
+#[test]
+fn refusals_of_listings() {
+    let mut store = made(6, 4, 4, 4);
+    answers(&mut store, &[write(1, b'A'), mark(), mark(), mark(), reclaim(2)]);
+    assert_eq!([0, 1, 2, 3, 4].map(|moment| listed(&mut store, moment).0), [8, 8, 0, 0, 9]);
+    // The live disk is not looked at.
+    store.marks[0] = 4;
+    store.disk.clear();
+    assert_eq!((check(&store), orders_of(&mut store, 2)), (18, vec![0]));
+    set_number_at(&mut store.places, 3, 9);
+    assert_eq!([1, 2, 4].map(|moment| listed(&mut store, moment).0), [3, 3, 3]);
+    store.slab.pop();
+    assert_eq!([1, 2, 4].map(|moment| listed(&mut store, moment).0), [1, 1, 1]);
+    for length in [0, 12, 15, 17, 24, 60] {
+        let mut store = made(6, 4, 4, 4);
+        store.branches.resize(length, 0);
+        assert_eq!((check(&store), listed(&mut store, 0).0), (1, 1));
+        assert_eq!(fresh(6, &mut store), 1);
+    }
+}
+
+/// The largest list: 4,096 work orders, 8,192 bytes.
+#[test]
+fn the_largest_list() {
+    let mut store = made(1, 4_096, 1, 1);
+    let weeks: Vec<Vec<u8>> = (0..4_095).flat_map(|row| [mark(), revert_by(2 * row, 65_535 - row)]).collect();
+    assert!(answers(&mut store, &weeks).iter().all(|answer| answer.0 == 0));
+    let mut list = vec![0x77; 8_193];
+    assert_eq!(work_orders(&mut store, 8_190, &mut list[..8_191]), Listing { refusal: 14, count: 0 });
+    assert!(list.iter().all(|byte| *byte == 0x77));
+    assert_eq!(work_orders(&mut store, 8_190, &mut list[..8_192]), Listing { refusal: 0, count: 4_096 });
+    for row in 0..4_095 {
+        assert_eq!(list[2 * row..2 * row + 2], (61_441 + row as u16).to_be_bytes());
+    }
+    assert_eq!(list[8_190..], [0, 0, 0x77]);
+}
+
+/// After every request of any list: a revert's work order stands before what its moment listed, a moment sealed lists as before,
+/// and the listing of every other moment that could and can be read changes with a reclaim alone, which leaves the orders of the
+/// rows that stay. The pile's listings, which go by the branches that were made, are the same.
+#[test]
+fn listings_of_any_list() {
+    let draw = &mut Drawn(7);
+    for _ in 0..300 {
+        let mut store = made(5, 8, 12, 12);
+        let mut pile = pictures::Pile::new(5);
+        for _ in 0..50 {
+            let moments: Vec<u32> = pile.readable().into_iter().collect();
+            let before: Vec<Vec<u32>> = moments.iter().map(|moment| orders_of(&mut store, *moment)).collect();
+            let at = |moment: u32| before[moments.binary_search(&moment).unwrap()].clone();
+            let now = pile.now;
+            let bytes = drawn_request_of_six(draw, &store);
+            let room = draw.below(5) * 2;
+            let mut served = None;
+            batch_watched(&mut store, &bytes, &mut vec![0; room as usize], |request, answer| {
+                pile.take(request, answer.refusal != 0);
+                served = Some((request.clone(), answer.refusal));
+            });
+            assert_eq!(pile.difference(&store), None);
+            let readable = pile.readable();
+            let reclaimed = matches!(served, Some((Request::Reclaim { .. }, 0)));
+            for moment in readable.iter().filter(|moment| moments.contains(moment)) {
+                let after = orders_of(&mut store, *moment);
+                assert!(reclaimed && after.len() <= at(*moment).len() || after == at(*moment));
+            }
+            match served {
+                Some((Request::Revert { moment, order }, 0)) => {
+                    assert_eq!(orders_of(&mut store, now + 1), [vec![order], at(moment)].concat());
+                }
+                Some((Request::Mark, 0)) => assert_eq!(orders_of(&mut store, now + 1), at(now)),
+                _ => assert_eq!(pile.now, now),
+            }
+        }
     }
 }

@@ -87,6 +87,24 @@ extern "C" {
         budget: u32,
         copied: *mut u64,
     ) -> u32;
+    fn kizmoolet_work_orders(
+        head: *const u8,
+        head_len: usize,
+        branches: *const u8,
+        branches_len: usize,
+        records: *const u8,
+        records_len: usize,
+        places: *const u8,
+        places_len: usize,
+        names: *const u8,
+        names_len: usize,
+        slab: *const u8,
+        slab_len: usize,
+        moment: u32,
+        list: *mut u8,
+        list_len: usize,
+        count: *mut u64,
+    ) -> u32;
 }
 
 /// Bytes before and after every area that nobody may change.
@@ -145,10 +163,12 @@ struct RustHost {
     lent: [Lent; 8],
     batch: Lent,
     answers: Lent,
+    list: Lent,
     counts: Counts,
     seen: [u64; NUMBERS],
     seen_live: [u64; NUMBERS],
     seen_steps: [u64; NUMBERS],
+    seen_lists: [u64; NUMBERS],
     differ: u64,
     /// The call at work has been counted as differing.
     told: bool,
@@ -390,6 +410,47 @@ impl Host for RustHost {
         self.check_margins();
     }
 
+    fn work_orders(&mut self, moment: u32, before: &[u8], told: &Listing, after: &[u8]) {
+        self.counts.calls += 1;
+        self.told = false;
+        self.list.fill(before);
+        let [head, branches, records, places, names, slab, ..] = &mut self.lent;
+        let mut got = Listing { refusal: 0, count: !told.count };
+        got.refusal = unsafe {
+            kizmoolet_work_orders(
+                head.address(),
+                head.length,
+                branches.address(),
+                branches.length,
+                records.address(),
+                records.length,
+                places.address(),
+                places.length,
+                names.address(),
+                names.length,
+                slab.address(),
+                slab.length,
+                moment,
+                self.list.address(),
+                self.list.length,
+                &mut got.count,
+            )
+        };
+        self.counts.lists[got.refusal as usize % NUMBERS] += 1;
+        if got != *told {
+            self.differs(&format!("the listing of moment {moment} tells {got:?}, should {told:?}"));
+        } else {
+            self.counts.orders += got.count;
+        }
+        if self.list.contents() != after {
+            self.differs("the list of work orders");
+        }
+        if !self.list.margins_hold() {
+            self.differs("bytes beside the list");
+        }
+        self.check_margins();
+    }
+
     fn compare(&mut self, areas: &Areas) {
         self.counts.compared += 1;
         let list = cases::list(areas);
@@ -436,10 +497,14 @@ impl Host for RustHost {
                 counts.copied
             );
         }
+        if counts.lists != [0; NUMBERS] {
+            println!("    listings {}; {} work orders", list(&counts.lists, 0..NUMBERS), counts.orders);
+        }
         for number in 0..NUMBERS {
             self.seen[number] += counts.stops[number] + counts.refusals[number];
             self.seen_live[number] += counts.live_reads[number];
             self.seen_steps[number] += counts.steps[number];
+            self.seen_lists[number] += counts.lists[number];
         }
     }
 
@@ -468,6 +533,7 @@ fn work() -> bool {
     want("batch", &host.seen, &(1..=18).collect::<Vec<_>>());
     want("live read", &host.seen_live, &[0, 1, 2, 3, 4, 18]);
     want("step", &host.seen_steps, &[0, 1, 2, 3, 18]);
+    want("listing", &host.seen_lists, &[0, 1, 2, 3, 8, 9, 14]);
     if arguments[3] == "all" && !missing.is_empty() {
         println!("  never seen: {}", missing.join(", "));
         return false;

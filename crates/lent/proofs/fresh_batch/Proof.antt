@@ -115,7 +115,7 @@ abbrev rows₀ : List Branch
 rows₀ = replicate 16 zero-branch
 
 row-is : Is B.the-row zero-branch (B′.lowered zero-branch ∷ [])
-row-is = LL.owes B.the-type B′.the-laws zero-branch ((refl, lit< tt), ((refl, lit< tt), ((refl, lit< tt), tt)))
+row-is = LL.owes B.the-type B′.the-laws zero-branch ((refl, lit< tt), ((refl, lit< tt), ((refl, lit< tt), ((refl, lit< tt), tt))))
 
 rows-room : Room B.the-row 16
 rows-room = (lit< tt, lit< tt)
@@ -270,7 +270,7 @@ module _ {M : Type 1} (𝓤 : URA M) (H : Heap 𝓤) (A : Atoms 𝓤) (W : Given
         pass1 ! (init ! 84 refl (tt, record { fits = fits₀ })) $ pass1 ! (init ! 82 refl (tt, (tt, (record { fits = room₁ .0 }, tt)))) $ pass1 ! (init ! 80 refl (tt, (tt, (record { fits = room₂ .0 }, tt)))) $ pass1 ! (init ! 78 refl (tt, (tt, (record { fits = room₃ .0 }, tt)))) $ pass1 ! (init ! 76 refl (tt, (tt, (record { fits = room₄ .0 }, tt)))) $ pass1 ! (init ! 74 refl (tt, (tt, (record { fits = room₅ .0 }, tt)))) $ pass1 ! (init ! 72 refl (tt, (tt, (record { fits = room₆ .0 }, tt)))) $ pass1 ! (init ! 70 refl (tt, (tt, (record { fits = room₇ .0 }, tt)))) $ pass1 ! (init ! 68 refl (tt, (tt, (record { fits = room₈ .0 }, tt)))) $ pass0 ! $
         -- the head and the rows in their locals, as what a reference borrows
         assigns ! (agg ! (and-then ! (lit ! tt) (and-then ! (lit ! tt) (and-then ! (lit ! tt) (and-then ! (lit ! tt) (and-then ! (lit ! tt) (and-then ! (lit ! tt) (no-more !)))))))) (from ! (stop !)) (init ! 66 refl (LL.lawful T.the-type T′.the-laws 𝓤 H A W .typed head₀ _ head-is .0)) $
-        assigns ! (agg ! (and-then ! (lit ! tt) (and-then ! (lit ! tt) (and-then ! (lit ! tt) (no-more !))))) (from ! (stop !)) (init ! 64 refl (LL.lawful B.the-type B′.the-laws 𝓤 H A W .typed zero-branch _ row-is .0)) $
+        assigns ! (agg ! (and-then ! (lit ! tt) (and-then ! (lit ! tt) (and-then ! (lit ! tt) (and-then ! (lit ! tt) (no-more !)))))) (from ! (stop !)) (init ! 64 refl (LL.lawful B.the-type B′.the-laws 𝓤 H A W .typed zero-branch _ row-is .0)) $
         assigns ! (rep ! 16 (load ! (from ! (stop !)) (look ! 64 refl))) (from ! (stop !)) (init ! 62 refl (repeat-typed S zero-branch (B′.lowered zero-branch) row-is 𝓤 H A W 16 (LL.lawful B.the-type B′.the-laws 𝓤 H A W))) $
         owned ! R (Is R) ((LL.makes T.the-type T′.the-plain) 𝓤 H A) head₀ _ head-is $
         move ! (67 ∷ 0 ∷ []) $

@@ -31,8 +31,19 @@ mul-t12 c = search needs
 shared-slice-read-t14 : tie.Need-shared-slice-read-t14
 shared-slice-read-t14 c = search needs
 
+add-t15 : tie.Need-add-t15
+add-t15 c = search needs
+
+mul-t16 : tie.Need-mul-t16
+mul-t16 c = search needs
+
+shared-slice-read-t18 : tie.Need-shared-slice-read-t18
+shared-slice-read-t18 c = search needs
+
 returns : tie.Need-returns
-returns c = sym (branch-get (c .before .before .before .args .t .now) (c .before .before .before .args .i) (c .before .before .before .pre))
+returns c =
+    let s = c .before .before .before .before in
+    sym (branch-get (s .args .t .now) (s .args .i) (s .pre))
 
 pub branch-at-spec : {M : Type 1} → statement M
 branch-at-spec =
@@ -47,4 +58,7 @@ branch-at-spec =
     add-t11
     mul-t12
     shared-slice-read-t14
+    add-t15
+    mul-t16
+    shared-slice-read-t18
     returns)

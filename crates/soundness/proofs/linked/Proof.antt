@@ -16,6 +16,12 @@ branch-at2-from-struct-known2 c = c .before .before .before
 abbrev branch-at2-from-then3 : tie.Then3 → tie.After-branch-at2
 branch-at2-from-then3 c = branch-at2-from-struct-known2 (c .before .before .before .before .before)
 
+abbrev else2-from-joined3 : tie.Joined3 → tie.Else2
+else2-from-joined3 c = c .before .before .before
+
+abbrev branch-at2-from-joined3 : tie.Joined3 → tie.After-branch-at2
+branch-at2-from-joined3 c = branch-at2-from-struct-known2 (else2-from-joined3 c .before .before)
+
 branch-at-requires : tie.Need-branch-at-requires
 branch-at-requires c κs = search needs
 
@@ -53,14 +59,24 @@ returns-3 c =
     let l = link→ (s .args .floor) (branchRowsOf bt) (s .args .i) (s .pre .0 .0) (omega (arith, branch-count bt, s .pre .0)) z in
     omega (arith, l .follows (omega (arith, same (b .before .branch-at .ensures))), same (b .before .branch-at .ensures), same (b .branch-at2 .ensures), d))
 
+returns-4 : tie.Need-returns-4
+returns-4 c =
+    let b = branch-at2-from-joined3 (c .before .before) in
+    let s = b .before .before .before in
+    let bt = now (s .args .bt) in
+    no-test
+    (λ z.
+    let l = link→ (s .args .floor) (branchRowsOf bt) (s .args .i) (s .pre .0 .0) (omega (arith, branch-count bt, s .pre .0)) z in
+    omega (arith, l .order, same (b .before .branch-at .ensures) .order, c .if5 .taken))
+
 held-in-requires : tie.Need-held-in-requires
 held-in-requires c κs = search needs
 
-returns-4 : tie.Need-returns-4
-returns-4 c =
-    let j = c .before in
-    let o = j .before .before .before in
-    let b = o .before .before .before .before .before in
+returns-5 : tie.Need-returns-5
+returns-5 c =
+    let j = c .before .before .before in
+    let o = else2-from-joined3 j in
+    let b = branch-at2-from-joined3 j in
     let s = b .before .before .before in
     let bt = now (s .args .bt) in
     let p = same (b .before .branch-at .ensures) in
@@ -68,6 +84,7 @@ returns-4 c =
     linked-is (s .args .floor) (branchRowsOf bt) (s .args .i) (s .pre .0 .0) (omega (arith, branch-count bt, s .pre .0)) (s .pre .1) (c .held-in .result) (b .before .branch-at .result .cut) (p .cut) (c .held-in .ensures)
     (omega (arith, o .before .before .before, p)) (omega (arith, o, p, q))
     (λ h. ⊎-elim (λ w. absurd (omega (arith, w .2 .left, p))) (λ w. omega (arith, w .left, p, q)) (j .if3 .came))
+    (omega (arith, c .before, p .order))
 
 pub linked-spec : {M : Type 1} → statement M
 linked-spec =
@@ -80,5 +97,6 @@ linked-spec =
     returns-2
     add-if3
     returns-3
+    returns-4
     held-in-requires
-    returns-4)
+    returns-5)

@@ -32,13 +32,13 @@ returns : tie.Need-returns
 returns c =
     let g = c .before .before in
     let s = start g in
-    revert-kept (s .args .head) (now (s .args .bt)) (now (s .args .nt)) (s .args .m) (g .revert-refusal .result) _ (g .before .branch-rows .ensures) (g .revert-refusal .ensures) (c .refused .result) (c .refused .ensures) (c .before .if1 .taken)
+    revert-kept (s .args .head) (now (s .args .bt)) (now (s .args .nt)) (s .args .m) (s .args .w) (g .revert-refusal .result) _ (g .before .branch-rows .ensures) (g .revert-refusal .ensures) (c .refused .result) (c .refused .ensures) (c .before .if1 .taken)
 
 grows : (c : tie.Else1) → Growing (start (c .before) .args .head) (now (start (c .before) .args .bt))
 grows c =
     let g = c .before in
     let s = start g in
-    revert-grows (s .args .head) (now (s .args .bt)) (now (s .args .nt)) (s .args .m) (g .revert-refusal .result) _ (g .before .branch-rows .ensures) (g .revert-refusal .ensures) (c .if1 .left)
+    revert-grows (s .args .head) (now (s .args .bt)) (now (s .args .nt)) (s .args .m) (s .args .w) (g .revert-refusal .result) _ (g .before .branch-rows .ensures) (g .revert-refusal .ensures) (c .if1 .left)
 
 add-next : tie.Need-add-next
 add-next c = omega (arith, grows c .later)
@@ -63,8 +63,8 @@ set-branch-requires-2 c κs =
     let e = else1-from-set-branch-arg2 c in
     omega (arith, grows e .room, set-length branch-kind (c .before .before .before .set-branch .ensures), branch-count (now (start (e .before) .args .bt)))
 
-add-t24 : tie.Need-add-t24
-add-t24 c = search needs
+add-t25 : tie.Need-add-t25
+add-t25 c = search needs
 
 accepted-requires : tie.Need-accepted-requires
 accepted-requires c κs = search needs
@@ -80,7 +80,7 @@ returns-2 c =
     let e = i .before .before .before in
     let g = e .before in
     let s = start g in
-    revert-done (s .args .head) (now (s .args .bt)) (now (s .args .nt)) (s .args .m) (g .revert-refusal .result) _ (g .before .branch-rows .ensures) (g .revert-refusal .ensures) (e .if1 .left) (c .accepted .result) _ _ (i .branch-at .result) (c .accepted .ensures)
+    revert-done (s .args .head) (now (s .args .bt)) (now (s .args .nt)) (s .args .m) (s .args .w) (g .revert-refusal .result) _ (g .before .branch-rows .ensures) (g .revert-refusal .ensures) (e .if1 .left) (c .accepted .result) _ _ (i .branch-at .result) (c .accepted .ensures)
     (i .branch-at .ensures) (b1 .set-branch .ensures) (b2 .set-branch2 .ensures)
 
 branch-rows-requires : tie.Need-branch-rows-requires
@@ -102,7 +102,7 @@ revert-spec =
     sub-set-branch
     set-branch-requires
     set-branch-requires-2
-    add-t24
+    add-t25
     accepted-requires
     same-length-2
     returns-2)

@@ -8,7 +8,7 @@ abbrev Inv-loop : tie.InvT-loop
 Inv-loop w₀ fault₀ w fault = Unit {0}
 
 abbrev μ-loop : tie.MeasureT-loop
-μ-loop w₀ fault₀ w fault = 92 - fault
+μ-loop w₀ fault₀ w fault = 115 - fault
 
 loop-holds : tie.Need-loop-holds Inv-loop μ-loop
 loop-holds c = tt

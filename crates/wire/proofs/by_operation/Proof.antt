@@ -29,8 +29,8 @@ short-requires c κs = search needs
 cast-t16 : tie.Need-cast-t16
 cast-t16 c = search needs
 
-add-short-3 : tie.Need-add-short-3
-add-short-3 c = search needs
+cast-t17 : tie.Need-cast-t17
+cast-t17 c = search needs
 
 short-requires-2 : tie.Need-short-requires-2
 short-requires-2 c κs = search needs
@@ -47,8 +47,8 @@ short-requires-3 c κs = search needs
 cast-t22 : tie.Need-cast-t22
 cast-t22 c = search needs
 
-add-short-4 : tie.Need-add-short-4
-add-short-4 c = search needs
+add-short-3 : tie.Need-add-short-3
+add-short-3 c = search needs
 
 short-requires-4 : tie.Need-short-requires-4
 short-requires-4 c κs = search needs
@@ -87,7 +87,7 @@ returns-3 : tie.Need-returns-3
 unfolding byOperation
 returns-3 c = λ part l z.
     let x = c .before .before .args in
-    rw (c .before .match .keys3, c .short2 .ensures) (short-is part (Revert (x .m)) (x .a + x .spare) _ (sum-zero (x .a) (x .spare)))
+    rw (c .before .match .keys3, c .short2 .ensures) (short-is part (Revert (x .m) (x .a)) (x .spare) _ refl)
 
 returns-4 : tie.Need-returns-4
 unfolding byOperation
@@ -138,13 +138,13 @@ by-operation-spec =
     add-short-2
     short-requires
     cast-t16
-    add-short-3
+    cast-t17
     short-requires-2
     cast-t19
     cast-t20
     short-requires-3
     cast-t22
-    add-short-4
+    add-short-3
     short-requires-4
     cast-t25
     add-followed-2

@@ -10,7 +10,7 @@ abbrev Inv-loop : tie.InvT-loop
 Inv-loop w₀ from to i₀ w i = length w ≡ length w₀
 
 abbrev μ-loop : tie.MeasureT-loop
-μ-loop w₀ from to i₀ w i = 63 - i
+μ-loop w₀ from to i₀ w i = 84 - i
 
 loop-holds : tie.Need-loop-holds Inv-loop μ-loop
 loop-holds c = refl

@@ -1,0 +1,4 @@
+pub mod Way
+pub mod Written
+pub mod Demand
+pub mod Logging
