@@ -24,7 +24,6 @@ use denote.Enum.Declared.{tagOf}
 use Rattle.wire.proofs.Parsed.{the-type}
 use Rattle.wire.specs.declared.Parsed as wire
 use Rattle.wire.specs.declared.Request as wire-request
-use Rattle.wire.specs.declared.Request.the-variants.{Write}
 use Rattle.wire.specs.declared.Parsed.the-variants.{End, Stop, One}
 use Rattle.wire.specs.Requests.{requestOf, parsedOf}
 use Rattle.batch.specs.Batch.{stopOf}
@@ -52,10 +51,6 @@ pub part-back : (a : List ℕ) (i : ℕ) (ys : List ℕ) → take i a ++ (ys ++ 
 part-back a i ys =
     let h : length (drop i a) ≤ length a - i = omega (arith, length-drop i a) in
     rw (drop-of-length-le (drop i a) h, append-nil)
-
--- a write that is whole has a page of 256 bytes
-pub whole-page : (part : List ℕ) (q : wire-request.Request) (a : ℕ) → q ≡ Write a → Whole (requestOf part q) → length (take 256 (drop 7 part)) ≡ 256
-whole-page part q a e h = rw e at h
 
 -- a list of three parts, cut after the second
 module _ (w y z b : List ℕ) (n : ℕ) (g : b ≡ w ++ (y ++ z)) (h : length w + length y ≡ n) where

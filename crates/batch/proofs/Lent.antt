@@ -1,17 +1,14 @@
--- What is lent: a sound store's names, and a batch that is over.
+-- What is lent, after a batch that is over.
 use mathlib.Core.Path.{_≡_, refl, ap, sym, _∙_}
 use mathlib.Core.List.{List, _++_}
 use mathlib.Core.Bool.{true}
-use Prim.Native.Nat.{ℕ, _≤_}
+use Prim.Native.Nat.{ℕ}
 use native.Mathlib.Omega.{arith}
 use lib.ListN.{length, take, drop, take-append-drop}
 use lib.Seq.{length-take-le}
 use Rattle.model.specs.declared.Head.{Head}
 use Rattle.model.specs.Batch.{Answered, Run, ended, batch}
-use Rattle.model.specs.ByNumber.{Sound}
-use Rattle.rows.specs.Rows.{NamesIn}
 use Rattle.rows.specs.View.{Tables, storeOf, laid}
-use Rattle.rows.proofs.Laws.{name-count}
 use Rattle.rows.proofs.View.{laid-self}
 use Rattle.model.proofs.Base.{case}
 use Rattle.live.specs.Live.{LiveDisk, liveCheck, played}
@@ -21,10 +18,6 @@ use Rattle.disk_check.specs.Check.{liveOf, liveCheckOf}
 use Rattle.disk_check.proofs.Checked.{whole-check, odd-check, passed-whole}
 use Rattle.batch.specs.Batch.{batchOf, BatchLeaves}
 use Rattle.batch.proofs.Laws.{Over}
-
--- names can be given and withdrawn on a sound store
-pub sound-nameable : (head : Head) (t : Tables) → Sound (storeOf head t) → (head .names ≤ 32) × NamesIn 32 (t .names)
-sound-nameable head t s = (s .sizes .names-counted, omega (arith, s .sizes .allowed .name-rows, name-count (t .names)))
 
 module _ {head h′ : Head} {t t′ : Tables} {input area area′ : List ℕ} {log : List Answered} {stop count at out : ℕ} where
   pub over-leaves : t′ ≡ laid (storeOf h′ t′) t → Over (storeOf head t) input area (storeOf h′ t′) area′ log stop count at out

@@ -1,18 +1,13 @@
 // A batch: the checks once, then requests one after the other, each on the store that the last one left; the live disk follows.
 use model::Head;
-use rows::Outcome;
 use wire::Parsed;
-use wire::Request;
 ghost use mathlib.Core.Path.{_≡_};
 ghost use lib.ListN.{length};
 ghost use Rattle.model.specs.Batch.{batch};
-ghost use Rattle.model.specs.ByNumber.{Sound, Whole};
 ghost use Rattle.live.specs.Live.{diskOf, played};
 ghost use Rattle.live.specs.Fit.{Fit};
-ghost use Rattle.rows.specs.View.{tables, storeOf, Carried};
+ghost use Rattle.rows.specs.View.{tables, storeOf};
 ghost use Rattle.soundness.specs.Check.{readOf};
-ghost use Rattle.wire.specs.Requests.{requestOf};
-ghost use Rattle.writing.specs.Free.{NoneBelow};
 ghost use Rattle.batch.specs.Batch.{batchOf, stopOf, BatchLeaves};
 
 // What became of the requests: the head, the stop number, the requests answered, their bytes, and the bytes of their answers.
@@ -28,38 +23,6 @@ pub struct Done {
 pub struct Batched {
     pub done: Done,
     pub rows: usize,
-}
-
-// One request carried out; part is the input from it on, in which a write's page stands. No place below low is free, before and after:
-// a write looks for one from there on, and a reclaim, which may free any, sets it back.
-pub fn serve(
-    head: Head,
-    bt: &mut [u32],
-    rt: &mut [u32],
-    pt: &mut [u32],
-    nt: &mut [u32],
-    slab: &mut [u8],
-    part: &[u8],
-    q: Request,
-    low: &mut usize,
-) -> Outcome
-    requires { ⌜ Sound (storeOf head (tables (now bt) (now rt) (now pt) (now nt) (now slab))) × Whole (requestOf (now part) q) ⌝ }
-    requires { ⌜ NoneBelow (now low) (now pt) ⌝ }
-    ensures { λ r. ⌜ Carried head (tables (now (bt .entry)) (now (rt .entry)) (now (pt .entry)) (now (nt .entry)) (now (slab .entry))) (requestOf (now (part .entry)) q) r (tables (now (bt .exit)) (now (rt .exit)) (now (pt .exit)) (now (nt .exit)) (now (slab .exit))) ⌝ }
-    ensures { λ _. ⌜ NoneBelow (now (low .exit)) (now (pt .exit)) ⌝ }
-{
-    match q {
-        Request::Write(a) => writing::write(head, rt, pt, slab, a, &part[7..263], low),
-        Request::Mark => store::mark(head),
-        Request::Revert(m, w) => store::revert(head, bt, nt, m, w),
-        Request::ReadAt(a, m) => store::read(head, bt, rt, nt, a, m),
-        Request::Reclaim(m) => {
-            *low = 0;
-            reclaim::reclaim(head, bt, rt, pt, nt, m)
-        }
-        Request::Give(n) => naming::give(head, nt, n),
-        Request::Withdraw(upper, lower) => naming::withdraw(head, nt, upper, lower),
-    }
 }
 
 // With which number a batch stops at what cannot be read, or at its end.
@@ -105,13 +68,13 @@ pub fn run(
         if answers.len() - out < 5 {
             return report(head, 14, answered, at, out);
         }
-        let r = serve(head, bt, rt, pt, nt, slab, part, q, &mut low);
+        let r = serving::serve(head, bt, rt, pt, nt, slab, part, q, &mut low);
         head = r.head;
-        let size = wire::answer_size(r);
+        let size = answering::answer_size(r);
         if answers.len() - out < size {
             return report(head, 14, answered, at, out);
         }
-        wire::put_answer(&mut answers[out..], slab, r);
+        answering::put_answer(&mut answers[out..], slab, r);
         following::follow(disk, marks, part, q, r.refusal);
         answered += 1;
         at += n;

@@ -17,13 +17,13 @@ use Rattle.disk_check.proofs.Checked.{whole-check}
 use Rattle.record_check.specs.declared.Finding.{Finding}
 use Rattle.batch.specs.declared.Done.{Done}
 use Rattle.batch.specs.declared.Batched.{Batched}
-use Rattle.batch.specs.Batch.{BatchLeaves}
 use Rattle.tables.specs.Numbers.{numbersOf, Written, headNumbers, headOf}
-use Rattle.tables.specs.Tables.{numbersIn, Saved}
-use Rattle.batch_areas.specs.declared.Tried.{Tried}
-use Rattle.batch_areas.specs.declared.Tried.the-variants.{Refused, Served}
+use Rattle.tables.specs.Tables.{numbersIn}
+use Rattle.batch_tables.specs.declared.Tried.{Tried}
+use Rattle.batch_tables.specs.declared.Tried.the-variants.{Refused, Served}
+use Rattle.batch_tables.specs.Tried.{RunSaved, TriedOn}
 use Rattle.areas.specs.Lent.{Lent, fits, storeIn, liveIn, withStore}
-use Rattle.batch_areas.specs.Batch.{batchLeft, checkIn, readIn, runLeft, batchBytes, BatchDone, RunSaved, TriedOn}
+use Rattle.batch_areas.specs.Batch.{batchLeft, checkIn, readIn, runLeft, batchBytes, BatchDone}
 use Rattle.areas.proofs.Areas.{fit-tables, stored-is, stored-again}
 
 -- by the refusal of the checks
@@ -112,21 +112,3 @@ module _ (l : Lent) (d : LiveDisk) (fit : fits l ≡ true) where
       tried-served {s} e w lb lr ln =
           let u : TriedOn h (l .tables) d input area (Served s) b′ d′ area′ = rw e at t in
           served-done (u .0) (u .1) (u .2) (u .3) w lb lr ln
-
--- numbers that were read, run on and written back
-pub run-saved-is : (h : Head) (b : Tables) (input : List ℕ) {t t′ b′ : Tables} {area area′ : List ℕ} {d : Done} → t ≡ numbersIn b
-    → BatchLeaves (batch (storeOf h t) input (length area)) t area d t′ area′ → Saved t′ b′ → b′ .slab ≡ t′ .slab
-    → RunSaved (batch (storeOf h (numbersIn b)) input (length area)) b area d b′ area′
-run-saved-is h b input {t} {t′} {b′} {area} {area′} {d} e f s es =
-    let run : Run = batch (storeOf h (numbersIn b)) input (length area) in
-    let g : BatchLeaves run (numbersIn b) area d t′ area′ = rw e at f in
-    record {
-      stop = g .stop;
-      answered = g .answered;
-      taken = g .taken;
-      sent = g .sent;
-      head = g .head;
-      tables = rw (g .tables) at s;
-      slab = es ∙ ap (λ (x : Tables). x .slab) (g .tables);
-      answers = g .answers;
-    }

@@ -1,10 +1,9 @@
 -- Laws of a live disk that follows requests.
 use mathlib.Core.Path.{_≡_}
 use mathlib.Core.List.{List}
-use Prim.Native.Nat.{ℕ, _≤_}
+use Prim.Native.Nat.{ℕ}
 use native.Mathlib.Omega.{arith}
 use borrow.Author.Tests.{ne-eqb}
-use lib.ListN.{length, take, drop, length-take, length-drop}
 use Rattle.model.specs.Store.{Store}
 use Rattle.model.specs.Wire.{Request, write, mark, revert, readAt, reclaim, give, withdraw}
 use Rattle.model.specs.Step.{step}
@@ -26,10 +25,6 @@ module _ (d : LiveDisk) (part : List ℕ) (q : wire.Request) (refusal : ℕ) whe
 
 pub lands-as : (d : LiveDisk) (part : List ℕ) (q : wire.Request) {v : wire.Request} → q ≡ v → Lands (requestOf part q) d → Lands (requestOf part v) d
 lands-as d part q e h = rw e at h
-
--- a page that is whole has room behind seven bytes
-pub page-room : (part : List ℕ) → length (take 256 (drop 7 part)) ≡ 256 → 263 ≤ length part
-page-room part e = omega (arith, length-take 256 (drop 7 part), length-drop 7 part)
 
 -- an accepted request lands on a disk that fits
 pub lands : (u : Store) (d : LiveDisk) (q : Request) → Fit u d → Whole q → step u q .answer .refusal ≡ 0 → Lands q d

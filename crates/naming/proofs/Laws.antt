@@ -15,6 +15,7 @@ use Rattle.model.specs.Store.{names, moments, isCalled, called, without, any, z
 use Rattle.model.specs.Lookup.{isReadable, readable}
 use Rattle.model.specs.Wire.{give, withdraw}
 use Rattle.model.specs.Step.{doGive, doWithdraw, step}
+use Rattle.model.specs.ByNumber.{Sound}
 use Rattle.model.proofs.Base.{length-keep, readable-above}
 use Rattle.rows.specs.declared.Outcome.{Outcome}
 use Rattle.rows.specs.Rows.{nameRowsOf, NameSet, NamesIn, NamesLaid}
@@ -30,6 +31,10 @@ use Rattle.naming.proofs.Search.{index-in, index-out}
 -- the counted rows are there
 pub name-room : (n : ℕ) (nt : List ℕ) → NamesIn n nt → n ≤ length (nameRowsOf nt)
 name-room n nt h = omega (arith, name-count nt)
+
+-- names can be given and withdrawn on a sound store
+pub sound-nameable : (head : Head) (t : Tables) → Sound (storeOf head t) → (head .names ≤ 32) × NamesIn 32 (t .names)
+sound-nameable head t s = (s .sizes .names-counted, omega (arith, s .sizes .allowed .name-rows, name-count (t .names)))
 
 -- a name table alone changed
 names-within : (nt nt′ : List ℕ) (t : Tables) → NamesLaid nt (nameRowsOf nt′) nt′ → Within (withNames nt t) (withNames nt′ t)

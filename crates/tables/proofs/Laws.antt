@@ -12,7 +12,7 @@ use Rattle.model.specs.Wire.{number, bytes}
 use Rattle.model.proofs.Base.{case, and→, →and}
 use Rattle.rows.specs.Rows.{flat, branchWidth, recordWidth, nameWidth}
 use Rattle.rows.proofs.Tab.{getD-tab}
-use Rattle.wire.specs.Answers.{inFront}
+use Rattle.wire.specs.Front.{inFront}
 use Rattle.tables.specs.Numbers.{spelledAt, spelled, numbersOf, bytesOf}
 use Rattle.tables.specs.Tables.{rowsFit, lengthsFit}
 use Rattle.model.proofs.Bytes.{number-fits, take-fits}

@@ -6,7 +6,7 @@ use native.Mathlib.Omega.{arith}
 use native.Mathlib.Nat.{zero-add}
 use lib.ListN.{length, take, drop, set, getD, length-append, length-drop, drop-of-length-le}
 use lib.Seq.{take-all, take-at, drop-at, drop-drop, set-split, paste-suc}
-use Rattle.wire.specs.Answers.{inFront}
+use Rattle.wire.specs.Front.{inFront}
 
 pub length-front : (xs area : List ℕ) → length xs ≤ length area → length (inFront xs area) ≡ length area
 length-front xs area h = omega (arith, length-append xs (drop (length xs) area), length-drop (length xs) area)

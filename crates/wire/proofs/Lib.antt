@@ -1,5 +1,3 @@
 pub mod Requests
-pub mod Packed
+pub mod Numbers
 pub mod Front
-pub mod Answers
-pub mod Sending

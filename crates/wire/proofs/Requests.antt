@@ -10,8 +10,8 @@ use lib.Dec.{leb, eqb}
 use lib.ListN.{length, take, drop, length-take, length-drop}
 use Rattle.model.specs.Wire.{number, give, withdraw, end, stop, one, highOf, lowOf, namedOf, ofWord, parse}
 use Rattle.model.specs.Wire.{Request as Model, Parsed as Read}
+use Rattle.model.specs.ByNumber.{Whole}
 use Rattle.model.proofs.Base.{case, and→, →and, same-test}
-use Rattle.model.proofs.Parsing.{Reads, parse-reads}
 use Rattle.wire.specs.declared.Request.{Request}
 use Rattle.wire.specs.declared.Request.the-variants.{Write, Give, Withdraw}
 use Rattle.wire.specs.declared.Parsed.{Parsed}
@@ -98,19 +98,10 @@ unfolding parse
 parse-whole [] h = absurd (omega arith)
 parse-whole (b ∷ bs) h = rw (le-leb 7 (length (b ∷ bs)) h)
 
--- what a caller learns of the input: it ends, or the stop is 11, 12 or 13, or the request and its page lie in it
-pub result-reads : (part : List ℕ) (r : Parsed) → parsedOf part r ≡ parse part → Reads (length part) (parsedOf part r)
-result-reads part r e = rw e (parse-reads part)
+-- a page that is whole has room behind seven bytes
+pub page-room : (part : List ℕ) → length (take 256 (drop 7 part)) ≡ 256 → 263 ≤ length part
+page-room part e = omega (arith, length-take 256 (drop 7 part), length-drop 7 part)
 
-pub one-inside : (part : List ℕ) (q : Request) (n : ℕ) → parsedOf part (One q n) ≡ parse part → (7 ≤ n) × (n ≤ length part)
-one-inside part q n e =
-    let w = result-reads part (One q n) e in
-    (w .1, w .2)
-
-pub page-whole : (part : List ℕ) (a n : ℕ) → parsedOf part (One (Write a) n) ≡ parse part → length (take 256 (drop 7 part)) ≡ 256
-page-whole part a n e = result-reads part (One (Write a) n) e .0
-
-pub page-inside : (part : List ℕ) (a n : ℕ) → parsedOf part (One (Write a) n) ≡ parse part → 263 ≤ length part
-page-inside part a n e =
-    let w : length (take 256 (drop 7 part)) ≡ 256 = page-whole part a n e in
-    omega (arith, length-take 256 (drop 7 part), length-drop 7 part)
+-- a write that is whole has a page of 256 bytes
+pub whole-page : (part : List ℕ) (q : Request) (a : ℕ) → q ≡ Write a → Whole (requestOf part q) → length (take 256 (drop 7 part)) ≡ 256
+whole-page part q a e h = rw e at h

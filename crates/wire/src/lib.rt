@@ -1,18 +1,14 @@
-// Requests and answers as bytes: the request reader and the answer writer.
+// Requests as bytes: the request reader, and numbers as bytes.
 use model::Name;
-use rows::Found;
-use rows::Outcome;
 ghost use mathlib.Core.Path.{_≡_};
 ghost use mathlib.Core.Bool.{cond};
 ghost use mathlib.Core.List.{List};
 ghost use lib.Dec.{eqb, leb};
-ghost use Prim.Native.Nat.{ℕ, _+_, _*_, _≤_, _<_};
+ghost use Prim.Native.Nat.{ℕ, _+_, _≤_, _<_};
 ghost use lib.ListN.{length, take, drop};
-ghost use Rattle.model.specs.Store.{pageAt};
 ghost use Rattle.model.specs.Wire.{number, bytes, byOperation, parse};
-ghost use Rattle.rows.specs.View.{foundOf};
 ghost use Rattle.wire.specs.Requests.{parsedOf, Spells};
-ghost use Rattle.wire.specs.Answers.{headBytes, inFront, Lies, sent};
+ghost use Rattle.wire.specs.Front.{inFront};
 
 // A request; a revert has a moment and a work order; a write's page stays in the input, behind the seven bytes; a name is read as two numbers.
 pub enum Request {
@@ -141,16 +137,6 @@ pub fn read_request(part: &[u8]) -> Parsed
     )
 }
 
-// The bytes of src go to the front of out.
-pub fn copy(out: &mut [u8], src: &[u8])
-    requires { ⌜ length (now src) ≤ length (now out) ⌝ }
-    ensures { λ _. ⌜ now (out .exit) ≡ inFront (now (src .entry)) (now (out .entry)) ⌝ }
-{
-    for i in 0..src.len() {
-        out[i] = src[i];
-    }
-}
-
 // A number as four bytes, most significant first, goes to the front of out.
 pub fn put_number(out: &mut [u8], x: u32)
     requires { ⌜ 4 ≤ length (now out) ⌝ }
@@ -160,53 +146,4 @@ pub fn put_number(out: &mut [u8], x: u32)
     out[1] = (x / 65536 % 256) as u8;
     out[2] = (x / 256 % 256) as u8;
     out[3] = (x % 256) as u8;
-}
-
-// The five bytes of an answer without its page go to the front of out.
-pub fn put_head(out: &mut [u8], refusal: u32, present: u32, value: u32)
-    requires { ⌜ (5 ≤ length (now out)) × (refusal < 64) × (present < 2) ⌝ }
-    ensures { λ _. ⌜ now (out .exit) ≡ inFront (headBytes refusal present value) (now (out .entry)) ⌝ }
-{
-    out[0] = (refusal * 4 + present * 2) as u8;
-    put_number(&mut out[1..], value);
-}
-
-// The page at a place of the slab goes to the front of out.
-pub fn put_page(out: &mut [u8], slab: &[u8], place: u32)
-    requires { ⌜ (256 ≤ length (now out)) × (256 * place + 256 ≤ length (now slab)) ⌝ }
-    ensures { λ _. ⌜ now (out .exit) ≡ inFront (pageAt (now (slab .entry)) place) (now (out .entry)) ⌝ }
-{
-    let at = place as usize * 256;
-    copy(out, &slab[at..at + 256]);
-}
-
-// How many bytes the answer of an outcome takes.
-pub fn answer_size(r: Outcome) -> usize
-    ensures { λ n. ⌜ ((slab : List ℕ) → Lies (foundOf (r .found)) slab → n ≡ length (sent r slab)) ⌝ }
-{
-    let found = r.found;
-    match found {
-        Found::Nothing => 5,
-        Found::Row(_) => 265,
-    }
-}
-
-// The answer of an outcome goes to the front of out; the result is its length.
-pub fn put_answer(out: &mut [u8], slab: &[u8], r: Outcome) -> usize
-    requires { ⌜ (r .refusal < 64) × Lies (foundOf (r .found)) (now slab) × (length (sent r (now slab)) ≤ length (now out)) ⌝ }
-    ensures { λ n. ⌜ (n ≡ length (sent r (now (slab .entry)))) × (now (out .exit) ≡ inFront (sent r (now (slab .entry))) (now (out .entry))) ⌝ }
-{
-    let found = r.found;
-    match found {
-        Found::Nothing => {
-            put_head(out, r.refusal, 0, r.value);
-            5
-        }
-        Found::Row(row) => {
-            put_head(out, r.refusal, 1, r.value);
-            put_number(&mut out[5..], row.moment);
-            put_page(&mut out[9..], slab, row.place);
-            265
-        }
-    }
 }

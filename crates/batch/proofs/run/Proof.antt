@@ -12,8 +12,8 @@ use Rattle.model.specs.ByNumber.{Whole}
 use Rattle.live.specs.Live.{LiveDisk, diskOf}
 use Rattle.rows.specs.View.{Tables, tables, storeOf, laid, foundOf, answerOf}
 use Rattle.rows.proofs.View.{SameLengths, laid-self, carried-store, carried-answer, carried-laid}
-use Rattle.wire.specs.Answers.{Lies}
-use Rattle.wire.proofs.Sending.{outcome-sends}
+use Rattle.answering.specs.Answers.{Lies}
+use Rattle.answering.proofs.Sending.{outcome-sends}
 use Rattle.wire.specs.Requests.{requestOf}
 use Rattle.writing.specs.Free.{NoneBelow}
 use Rattle.batch.proofs.Laws.{part-all, part-back, left-start, left-short, left-full-page, left-whole, left-taken, left-again, read-one, read-over}

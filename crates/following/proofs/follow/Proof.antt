@@ -8,8 +8,9 @@ use Rattle.live.specs.Live.{LiveDisk, diskOf, follows, following}
 use Rattle.wire.specs.Requests.{requestOf}
 use Rattle.wire.specs.declared.Request as wire
 use Rattle.wire.specs.declared.Request.the-variants.{Write}
+use Rattle.wire.proofs.Requests.{page-room}
 use Rattle.following.specs.Lands.{Lands}
-use Rattle.following.proofs.Laws.{follow-none, follow-done, lands-as, page-room}
+use Rattle.following.proofs.Laws.{follow-none, follow-done, lands-as}
 use Rattle.following.proofs.follow.Statement.{statement}
 use Rattle.following.proofs.follow.Tie as tie
 

@@ -4,7 +4,7 @@ use native.Mathlib.Omega.{arith}
 use native.Mathlib.Numerals.{add-one}
 use denote.Ref.{now}
 use lib.ListN.{length, take, length-take, length-drop}
-use Rattle.wire.specs.Answers.{inFront}
+use Rattle.wire.specs.Front.{inFront}
 use Rattle.wire.proofs.Front.{front-then, length-front}
 use mathlib.Core.List.{List}
 use lib.Seq.{length-take-le}

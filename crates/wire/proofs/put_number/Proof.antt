@@ -4,7 +4,7 @@ use native.Mathlib.Omega.{arith}
 use denote.Ref.{now}
 use lib.ListN.{length-set}
 use lib.Seq.{sets-eq}
-use Rattle.wire.proofs.Packed.{four-bytes}
+use Rattle.wire.proofs.Numbers.{four-bytes}
 use borrow.Author.Needs.{needs}
 use Rattle.wire.proofs.put_number.Statement.{statement}
 use Rattle.wire.proofs.put_number.Tie as tie
