@@ -53,6 +53,10 @@
  * volume of 65,536 pages (docs/BENCHMARKS.md, "The live disk"): a live read 0.20 to 0.24 ms; all pages copied by one step 5 to 6 ms
  * where pages are found at once, 0.21 s where each lookup passes some 2,000 branches; by steps of 64 pages 0.21 to 0.50 s.
  *
+ * A list of work orders decodes and checks just so, but for live disk and marks, passes over the counted branch rows twice, and
+ * encodes nothing. Measured on the largest tables with all rows in use (docs/BENCHMARKS.md, "Work orders"): 0.20 to 0.21 ms, for 2
+ * work orders as for 4,096.
+ *
  *
  * THE SIX AREAS OF A STORE
  *
@@ -281,7 +285,7 @@
 #define KIZMOOLET_DATE_BYTES 4u
 #define KIZMOOLET_PAGE_ANSWER_BYTES 265u
 
-/* Enough stack for a call of any of the functions. Measured: kizmoolet_batch 1.38 MB, the others 1.10 MB, whatever the sizes of
+/* Enough stack for a call of any of the functions. Measured: kizmoolet_batch 1.40 MB, the others 1.12 MB, whatever the sizes of
    the tables and the batch. */
 #define KIZMOOLET_STACK_BYTES 1572864u
 
