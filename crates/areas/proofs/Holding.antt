@@ -15,7 +15,7 @@ use Rattle.model.proofs.Kept.{Small, SmallHead, SmallBranch, SmallRecord, SmallN
 use Rattle.rows.specs.Rows.{flat, branch_fields, record_fields, name_fields}
 use Rattle.rows.specs.View.{Tables, tables, laid}
 use Rattle.rows.proofs.Laws.{branch_kind, record_kind, name_kind, branch_count, record_count, name_count}
-use Rattle.rows.proofs.Relaid.{relaid-whole, relaid-length}
+use Rattle.rows.proofs.Relaid.{relaid_whole, relaid_length}
 use Rattle.rows.proofs.View.{laid_on}
 use Rattle.soundness.proofs.Sizes.{WholeRows}
 use Rattle.tables.specs.Numbers.{numbers_of, bytes_of, Written, head_numbers}
@@ -69,13 +69,13 @@ module _ (l : Lent) (fit : fits l ≡ true) (s : Store) (k : Kept (store_in l) s
   whole = fit_whole l fit
 
   branches_flat : (laid s T).branches ≡ flat branch_fields s.branch_rows
-  branches_flat = relaid-whole branch_kind T.branches whole.branches s.branch_rows
+  branches_flat = relaid_whole branch_kind T.branches whole.branches s.branch_rows
 
   records_flat : (laid s T).records ≡ flat record_fields s.record_rows
-  records_flat = relaid-whole record_kind T.records whole.records s.record_rows
+  records_flat = relaid_whole record_kind T.records whole.records s.record_rows
 
   names_flat : (laid s T).names ≡ flat name_fields s.name_rows
-  names_flat = relaid-whole name_kind T.names whole.names s.name_rows
+  names_flat = relaid_whole name_kind T.names whole.names s.name_rows
 
   saved : Saved (laid s T) (bytes_in (laid s T))
   saved =
@@ -95,12 +95,12 @@ module _ (l : Lent) (fit : fits l ≡ true) (s : Store) (k : Kept (store_in l) s
 
   branches_long : length (with_store l s).tables.branches ≡ length l.tables.branches
   branches_long =
-      long (laid s T).branches l.tables.branches (relaid-length branch_kind T.branches s.branch_rows (k.branches ∙ branch_count T.branches))
+      long (laid s T).branches l.tables.branches (relaid_length branch_kind T.branches s.branch_rows (k.branches ∙ branch_count T.branches))
       (omega (arith, (lengths_of l fit).branches))
 
   records_long : length (with_store l s).tables.records ≡ length l.tables.records
   records_long =
-      long (laid s T).records l.tables.records (relaid-length record_kind T.records s.record_rows (k.records ∙ record_count T.records))
+      long (laid s T).records l.tables.records (relaid_length record_kind T.records s.record_rows (k.records ∙ record_count T.records))
       (omega (arith, (lengths_of l fit).records))
 
   places_long : length (with_store l s).tables.places ≡ length l.tables.places
@@ -108,7 +108,7 @@ module _ (l : Lent) (fit : fits l ≡ true) (s : Store) (k : Kept (store_in l) s
 
   names_long : length (with_store l s).tables.names ≡ length l.tables.names
   names_long =
-      long (laid s T).names l.tables.names (relaid-length name_kind T.names s.name_rows (k.names ∙ name_count T.names))
+      long (laid s T).names l.tables.names (relaid_length name_kind T.names s.name_rows (k.names ∙ name_count T.names))
       (omega (arith, (lengths_of l fit).names))
 
   head_long : length (with_store l s).head ≡ length l.head

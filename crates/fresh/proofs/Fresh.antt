@@ -11,8 +11,8 @@ use Rattle.model.specs.Fresh.{fresh_check, fresh, made_fresh}
 use Rattle.model.proofs.Base.{case}
 use Rattle.rows.specs.Rows.{zeros, rows_by, relaid, branch_rows_of, record_rows_of, name_rows_of, BranchSet}
 use Rattle.rows.specs.View.{Tables, tables, store_of}
-use Rattle.rows.proofs.Laws.{Kind, branch_kind, record_kind, name_kind, branch_count, record_count, relaid-own, length_zeros, zero_rows_lem}
-use Rattle.rows.proofs.Relaid.{relaid-whole, set_length, set_rows}
+use Rattle.rows.proofs.Laws.{Kind, branch_kind, record_kind, name_kind, branch_count, record_count, relaid_own, length_zeros, zero_rows_lem}
+use Rattle.rows.proofs.Relaid.{relaid_whole, set_length, set_rows}
 use Rattle.rows.proofs.View.{SameLengths, laid_self, laid_store}
 use Rattle.soundness.specs.Check.{allowed_in}
 use Rattle.soundness.proofs.Sizes.{WholeRows, lengths→}
@@ -33,7 +33,7 @@ whole_table : {A : Type 0} (K : Kind A) (t u : List ℕ) → length u ≡ length
     → u ≡ relaid K.width K.fields xs t
 whole_table K t u l e xs h =
     let d : length u % K.width ≡ 0 = rw l e in
-    sym (relaid-own K u) ∙ (rw h (relaid-whole K u d xs) ∙ sym (relaid-whole K t e xs))
+    sym (relaid_own K u) ∙ (rw h (relaid_whole K u d xs) ∙ sym (relaid_whole K t e xs))
 
 module _ (head : Head) (size : ℕ) (t : Tables) (ok : allowed_in size t ≡ true) where
   -- what is lent becomes the model's fresh store over as many rows

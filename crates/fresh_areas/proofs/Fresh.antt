@@ -13,7 +13,7 @@ use Rattle.model.proofs.Base.{case, absurd_test}
 use Rattle.rows.specs.Rows.{branch_rows_of, record_rows_of, name_rows_of}
 use Rattle.rows.specs.View.{Tables, tables, laid}
 use Rattle.rows.proofs.Laws.{branch_kind, record_kind, name_kind, branch_count, record_count}
-use Rattle.rows.proofs.Relaid.{relaid-whole}
+use Rattle.rows.proofs.Relaid.{relaid_whole}
 use Rattle.soundness.specs.Check.{allowed_of, allowed_in}
 use Rattle.soundness.proofs.Sizes.{WholeRows}
 use Rattle.soundness.proofs.Checked.{allowed_rows, allowed_whole}
@@ -133,9 +133,9 @@ module _ {h₀ : Head} {size : ℕ} {b t t' : Tables} {m : Made} (es : t.slab �
         let s : Store = fresh_of h (numbers_in b) size in
         let w : WholeRows t = allowed_whole size t ok' in
         let v : WholeRows (numbers_in b) = allowed_whole size (numbers_in b) ok in
-        let eb = relaid-whole branch_kind t.branches w.branches s.branch_rows ∙ sym (relaid-whole branch_kind (numbers_of b.branches) v.branches s.branch_rows) in
-        let er = relaid-whole record_kind t.records w.records s.record_rows ∙ sym (relaid-whole record_kind (numbers_of b.records) v.records s.record_rows) in
-        let en = relaid-whole name_kind t.names w.names s.name_rows ∙ sym (relaid-whole name_kind (numbers_of b.names) v.names s.name_rows) in
+        let eb = relaid_whole branch_kind t.branches w.branches s.branch_rows ∙ sym (relaid_whole branch_kind (numbers_of b.branches) v.branches s.branch_rows) in
+        let er = relaid_whole record_kind t.records w.records s.record_rows ∙ sym (relaid_whole record_kind (numbers_of b.records) v.records s.record_rows) in
+        let en = relaid_whole name_kind t.names w.names s.name_rows ∙ sym (relaid_whole name_kind (numbers_of b.names) v.names s.name_rows) in
         f.tables ∙ (ap (λ (x : Store). laid x t) store_same ∙ (λ i. tables (eb i) (er i) s.place_rows (en i) s.slab))
 
   pub fresh_kept : {b' : Tables} → (m.refusal ≡ 0 → ⊥) → b' ≡ b → FreshSaved size b m b'

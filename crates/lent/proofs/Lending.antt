@@ -21,8 +21,8 @@ use Rattle.model.proofs.RowsRead.{rows_tell}
 use Rattle.live.specs.Live.{LiveDisk, LiveRun, live_check, live_batch}
 use Rattle.rows.specs.Rows.{branch_width, branch_rows_of, record_rows_of, name_rows_of, BranchesIn}
 use Rattle.rows.specs.View.{Tables, tables, store_of, laid}
-use Rattle.rows.proofs.Laws.{branch_kind, record_kind, name_kind, relaid-own}
-use Rattle.rows.proofs.Relaid.{front-rows}
+use Rattle.rows.proofs.Laws.{branch_kind, record_kind, name_kind, relaid_own}
+use Rattle.rows.proofs.Relaid.{front_rows}
 use Rattle.soundness.specs.Check.{whole_rows, whole_tables, allowed_in, read_of}
 use Rattle.soundness.proofs.Checked.{allowed_rows}
 use Rattle.batch.specs.declared.Done.{Done}
@@ -39,7 +39,7 @@ not_made s size e = rw e
 
 -- what is lent, laid over itself
 laid_itself : (head : Head) (l : Lent) → l ≡ laid_over (lent_store head l) l
-laid_itself head l i = record { branches = l.branches; records = sym (relaid-own record_kind l.records) i; places = l.places; names = sym (relaid-own name_kind l.names) i; slab = l.slab }
+laid_itself head l i = record { branches = l.branches; records = sym (relaid_own record_kind l.records) i; places = l.places; names = sym (relaid_own name_kind l.names) i; slab = l.slab }
 
 -- n rows of a flat table, and what a call on their numbers leaves in the table
 module _ (n : ℕ) (t : List ℕ) (fits : BranchesIn n t) where
@@ -66,7 +66,7 @@ module _ (n : ℕ) (t : List ℕ) (fits : BranchesIn n t) where
     front_whole = let e : length front % branch_width ≡ 0 = rw length_front (mul-mod_left n branch_width) in rw e
 
     front_store : (head : Head) → store_of head T ≡ lent_store head L
-    front_store head = ap (λ (r : List Branch). lent_store head (lent r rt pt nt slab)) (front-rows branch_kind n t fits)
+    front_store head = ap (λ (r : List Branch). lent_store head (lent r rt pt nt slab)) (front_rows branch_kind n t fits)
 
     batch_front : (head : Head) (d : LiveDisk) (input : List ℕ) (space : ℕ) → batch_of head T d input space ≡ lent_batch head L d input space
     unfolding batch_of lent_batch
@@ -83,7 +83,7 @@ module _ (n : ℕ) (t : List ℕ) (fits : BranchesIn n t) where
 
     -- the sizes that are allowed, of the rows
     front_allowed : (size : ℕ) → allowed_in size T ≡ (whole_others L && sizes_allowed size (length L.branches) (length (record_rows_of rt)) (length pt) (length (name_rows_of nt)) (length slab))
-    front_allowed size = allowed_rows size T ∙ rw (front_whole, front-rows branch_kind n t fits)
+    front_allowed size = allowed_rows size T ∙ rw (front_whole, front_rows branch_kind n t fits)
 
     fresh_front : (head : Head) (size : ℕ) → fresh_of head T size ≡ lent_fresh head L size
     unfolding fresh_of lent_fresh

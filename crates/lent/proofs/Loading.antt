@@ -11,7 +11,7 @@ use lib.ListN.{length, get_or, set, take, drop, length-append, length-drop}
 use lib.Seq.{sets, sets-eq, length-take-le, take-suc, take_at, drop-cons, drop-append-add, drop-drop, set_at, append_snoc, take-length, drop-length}
 use Rattle.rows.specs.Rows.{rows_by, flat, relaid, RowSet}
 use Rattle.rows.proofs.Laws.{Kind, rows_length, row_put}
-use Rattle.rows.proofs.Relaid.{flat_append, length_flat, relaid-whole, first_rows}
+use Rattle.rows.proofs.Relaid.{flat_append, length_flat, relaid_whole, first_rows}
 
 module _ {A : Type 0} (K : Kind A) where
   abbrev w : ℕ
@@ -87,6 +87,6 @@ module _ {A : Type 0} (K : Kind A) where
   -- n rows laid over a table of n rows, and what follows it: the first n rows are those
   pub relaid_first : (n : ℕ) (t u rest : List ℕ) (xs : List A) → length t ≡ n * w → length u ≡ length t → u ≡ relaid w K.fields xs t → take n (rows (u ++ rest)) ≡ xs
   relaid_first n t u rest xs lt lu e =
-      let front : u ≡ flat K.fields xs = e ∙ relaid-whole K t (rw lt (mul-mod_left n w)) xs in
+      let front : u ≡ flat K.fields xs = e ∙ relaid_whole K t (rw lt (mul-mod_left n w)) xs in
       let count : length xs ≡ n = eq_of_mul-eq-mul_right w K.wide (length xs) n (sym (length_flat K xs) ∙ (ap length (sym front) ∙ (lu ∙ lt))) in
       rw (front, sym count) (first_rows K xs rest)

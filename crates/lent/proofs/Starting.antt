@@ -14,7 +14,7 @@ use Rattle.model.proofs.Base.{case}
 use Rattle.live.specs.Live.{LiveDisk, LiveRun}
 use Rattle.rows.specs.Rows.{record_width, record_rows_of, record_table, RecordsLaid, name_width, name_rows_of, name_table, NamesLaid}
 use Rattle.rows.proofs.Laws.{record_kind, name_kind}
-use Rattle.rows.proofs.Relaid.{laid-rows, laid-over}
+use Rattle.rows.proofs.Relaid.{laid_rows, laid_over_lem}
 use Rattle.lent.specs.declared.Report.{Report}
 use Rattle.lent.specs.Lent.{Lent, lent, lent_store, whole_others, lent_batch, lent_read, lent_fresh, BatchLeaves, FreshLeaves, fresh_start, fresh_batch, fresh_read}
 
@@ -45,8 +45,8 @@ module _ (size : ℕ) (l : Lent) (r : ℕ) (h₁ : Head) (l₁ : Lent) (same : l
   -- it is that store
   store_made : lent_store h₁ l₁ ≡ s
   store_made =
-      let rows : record_rows_of l₁.records ≡ s.record_rows = laid-rows record_kind laid same in
-      let named : name_rows_of l₁.names ≡ s.name_rows = laid-rows name_kind laid_names same_names in
+      let rows : record_rows_of l₁.records ≡ s.record_rows = laid_rows record_kind laid same in
+      let named : name_rows_of l₁.names ≡ s.name_rows = laid_rows name_kind laid_names same_names in
       λ i.
       record {
         head = made.made i;
@@ -77,8 +77,8 @@ module _ (size : ℕ) (l : Lent) (r : ℕ) (h₁ : Head) (l₁ : Lent) (same : l
       → BatchLeaves (fresh_batch size l d input (length area)).run l area q h₂ (lent (fresh_batch size l d input (length area)).run.store.branch_rows l₂.records l₂.places l₂.names l₂.slab) area₂
   then_batch d input area q h₂ l₂ area₂ x =
       let run : Run = (lent_batch h₁ l₁ d input (length area)).run in
-      let er : l₂.records ≡ record_table run.store.record_rows l.records = ap (λ (y : Lent). y.records) x.tables ∙ laid-over record_kind laid same run.store.record_rows in
-      let en : l₂.names ≡ name_table run.store.name_rows l.names = ap (λ (y : Lent). y.names) x.tables ∙ laid-over name_kind laid_names same_names run.store.name_rows in
+      let er : l₂.records ≡ record_table run.store.record_rows l.records = ap (λ (y : Lent). y.records) x.tables ∙ laid_over_lem record_kind laid same run.store.record_rows in
+      let en : l₂.names ≡ name_table run.store.name_rows l.names = ap (λ (y : Lent). y.names) x.tables ∙ laid_over_lem name_kind laid_names same_names run.store.name_rows in
       rw (sym (batch_made d input (length area)))
       (record {
         stop = x.stop;

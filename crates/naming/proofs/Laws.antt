@@ -21,7 +21,7 @@ use Rattle.rows.specs.declared.Outcome.{Outcome}
 use Rattle.rows.specs.Rows.{name_rows_of, NameSet, NamesIn, NamesLaid}
 use Rattle.rows.specs.View.{Tables, with_names, store_of, record_given, Carried, refused_with, accepted_with}
 use Rattle.rows.proofs.Laws.{branch_kind, record_kind, name_kind, name_count}
-use Rattle.rows.proofs.Relaid.{laid_own, laid-rows, set_rows, set_own}
+use Rattle.rows.proofs.Relaid.{laid_own, laid_rows, set_rows, set_own}
 use Rattle.rows.proofs.View.{Within, within_own, carried}
 use Rattle.closing.specs.Closed.{keep_by}
 use Rattle.closing.proofs.Closing.{keep_by_keep}
@@ -127,5 +127,5 @@ module _ (head : Head) (nt : List ℕ) (high low : ℕ) (room : NamesIn head.nam
         let h : get_or rows (index_of high low rows) zero_name ≡ x =
         ap (λ (y : ℕ). get_or rows y zero_name) (omega (arith, found)) ∙ get_or-take head.names (name_rows_of nt) at zero_name j ∙ sym g in
         let c : called high low rows ≡ some x = (index_in high low rows i).1 ∙ ap (λ (y : Name). some y) h in
-        let q = laid-rows name_kind k.table l in
+        let q = laid_rows name_kind k.table l in
         carried head (with_names nt t) (withdraw high low) (rw (e, c, q, k.count)) (rw e) (names_within nt nt' t (rw q k.table))

@@ -29,7 +29,7 @@ use Rattle.rows.specs.View.{Tables, with_branches, with_records, with_places, wi
 use Rattle.reclaim.specs.Reclaimable.{Reclaimable}
 use Rattle.reclaim.specs.Settled.{settled_rows, Settled}
 use Rattle.reclaim.proofs.Settles.{bit_test}
-use Rattle.rows.proofs.Relaid.{laid_own, laid-rows}
+use Rattle.rows.proofs.Relaid.{laid_own, laid_rows}
 use Rattle.rows.proofs.View.{within_own, carried}
 use Rattle.rows.specs.declared.Found.TheVariants.{Nothing}
 use Rattle.closing.proofs.Closing.{keep_by_keep, renamed_numbered}
@@ -203,8 +203,8 @@ reclaims h bt rt pt nt bt' rt' pt' m wb wr {or} {rm} a l u fr cr lr cb lb o =
     let sd : Sound (store_of h t) = a.sound in
     let er = keep_records h t m sd l u fr in
     let ep = rename_places h t m sd l u fr in
-    let tb = laid-rows branch_kind cb.table lb in
-    let tr = laid-rows record_kind cr.table lr in
+    let tb = laid_rows branch_kind cb.table lb in
+    let tr = laid_rows record_kind cr.table lr in
     carried h (lent bt rt pt nt o) (reclaim m)
     (sym
     (accepted_step h (lent bt rt pt nt o) m l u

@@ -18,7 +18,7 @@ use Rattle.model.proofs.Base.{length_keep}
 use Rattle.model.proofs.Ancestry.{→holds}
 use Rattle.rows.specs.Rows.{branch_rows_of, BranchesIn, BranchesLaid}
 use Rattle.rows.proofs.Laws.{branch_kind, branch_count}
-use Rattle.rows.proofs.Relaid.{laid-rows, laid_then}
+use Rattle.rows.proofs.Relaid.{laid_rows, laid_then}
 use Rattle.closing.specs.Closed.{marked, keep_by, ClosedBranches}
 use Rattle.branch_marks.specs.Marks.{Filled, bit, kept_branch}
 use Rattle.cuts.specs.Cuts.{recut}
@@ -47,7 +47,7 @@ module _ (floor : ℕ) (named : List ℕ) (kept : List Record) (bt : List ℕ) (
   pub settles : {old bm mid new : List ℕ} {w : ℕ} → Filled (kept_branch bs floor named kept) n old bm → BranchesLaid bt (recut (marked bm) bs n) mid → length mid ≡ length bt
       → ClosedBranches bm n mid new w → Settled left n bt new w
   settles {old} {bm} {mid} {new} {w} f x same c =
-      let rows : branch_rows_of mid ≡ recut (marked bm) bs n = laid-rows branch_kind x same in
+      let rows : branch_rows_of mid ≡ recut (marked bm) bs n = laid_rows branch_kind x same in
       let left-rows : keep_by (marked bm) (take n (branch_rows_of mid)) ≡ settled_rows left n bs =
       rw rows (recut_settled left (marked bm) bs n h (omega (arith, branch_count bt))
       (λ i l. ap (λ (v : ℕ). eqb v 1) (f.first i l) ∙ bit_test (left (branch bs i))) (first_holds floor named kept one) (first_stays floor named kept one)) in

@@ -19,30 +19,24 @@ use Rattle.model.proofs.Naming.{give_cases, withdraw_cases}
 use Rattle.rows.specs.declared.Found.{Found}
 use Rattle.rows.specs.declared.Found.TheVariants.{Row, Nothing}
 use Rattle.rows.specs.declared.Outcome.{Outcome}
-use Rattle.rows.specs.Rows.{branch_rows_of, record_rows_of, place_rows_of, name_rows_of, BranchesLaid, RecordsLaid, PlacesLaid, NamesLaid}
-use Rattle.rows.specs.View.{Tables, store_of, Laid, found_of, found_as, answer_of, record_given, Leaves, Carried}
-use Rattle.rows.proofs.Laws.{branch_kind, record_kind, place_kind, name_kind}
-use Rattle.rows.proofs.Relaid.{laid_own, laid_then}
+use Rattle.rows.specs.Rows.{branch_rows_of, record_rows_of, name_rows_of, branch_table, record_table, name_table, BranchesLaid, RecordsLaid, NamesLaid}
+use Rattle.rows.specs.View.{Tables, tables, store_of, laid, found_of, found_as, answer_of, record_given, Leaves, Carried}
+use Rattle.rows.proofs.Laws.{branch_kind, record_kind, name_kind}
+use Rattle.rows.proofs.Relaid.{laid_own, laid_rows, laid_over_lem}
 
 -- an outcome and the tables that it leaves, as the store after a request with its answer
 abbrev pub stepped_of : Outcome → Tables → Stepped
 stepped_of r t = record { store = store_of r.head t; answer = answer_of r t.slab }
 
--- u has tables as long as those of t, with the same bytes past their last whole rows
+-- u has tables of rows as long as those of t, and the same numbers past their last whole rows
 pub record Within (t u : Tables) : Type 0 where
   pub branches : BranchesLaid t.branches (branch_rows_of u.branches) u.branches
   pub records : RecordsLaid t.records (record_rows_of u.records) u.records
-  pub places : PlacesLaid t.places (place_rows_of u.places) u.places
   pub names : NamesLaid t.names (name_rows_of u.names) u.names
 
 pub within_own : (t : Tables) → Within t t
 within_own t =
-    record {
-      branches = laid_own branch_kind t.branches;
-      records = laid_own record_kind t.records;
-      places = laid_own place_kind t.places;
-      names = laid_own name_kind t.names;
-    }
+    record { branches = laid_own branch_kind t.branches; records = laid_own record_kind t.records; names = laid_own name_kind t.names }
 
 -- what is found, there and back
 found_as_lem : (f : Found) → found_as (found_of f) ≡ f
@@ -58,21 +52,16 @@ pub none_given : (f : Found) (slab : List ℕ) → found_page slab (found_of f) 
 none_given Nothing slab e = refl
 none_given (Row r) slab e = let z : ◌≡◌ {A = ℕ} 0 1 = cc in absurd (omega arith)
 
--- tables that are a store, with the bytes past their last whole rows as they were
-pub laid_within : {t u : Tables} {h : Head} (s : Store) → store_of h u ≡ s → Within t u → Laid s t u
-laid_within s e w =
-    record {
-      branches = rw (ap (λ (x : Store). x.branch_rows) e) at w.branches;
-      records = rw (ap (λ (x : Store). x.record_rows) e) at w.records;
-      places = rw (ap (λ (x : Store). x.place_rows) e) at w.places;
-      names = rw (ap (λ (x : Store). x.name_rows) e) at w.names;
-      slab = ap (λ (x : Store). x.slab) e;
-    }
-
 module _ {st : Stepped} {given : Option Record} {t u : Tables} {r : Outcome} where
-  -- a step said of rows, and the bytes past them: every byte is as the step says
+  -- a step said of rows, and the numbers past them: every number is as the step says
   pub leaves_all : stepped_of r u ≡ st → found_of r.found ≡ given → Within t u → Leaves st given t r u
   leaves_all e f w =
+      let eb : branch_rows_of u.branches ≡ st.store.branch_rows = ap (λ (x : Stepped). x.store.branch_rows) e in
+      let er : record_rows_of u.records ≡ st.store.record_rows = ap (λ (x : Stepped). x.store.record_rows) e in
+      let en : name_rows_of u.names ≡ st.store.name_rows = ap (λ (x : Stepped). x.store.name_rows) e in
+      let tb : u.branches ≡ branch_table st.store.branch_rows t.branches = w.branches.table ∙ ap (λ (x : List Branch). branch_table x t.branches) eb in
+      let tr : u.records ≡ record_table st.store.record_rows t.records = w.records.table ∙ ap (λ (x : List Record). record_table x t.records) er in
+      let tn : u.names ≡ name_table st.store.name_rows t.names = w.names.table ∙ ap (λ (x : List Name). name_table x t.names) en in
       record {
         outcome =
             λ i.
@@ -82,38 +71,49 @@ module _ {st : Stepped} {given : Option Record} {t u : Tables} {r : Outcome} whe
               value = (e i).answer.value;
               found = (sym (found_as_lem r.found) ∙ ap found_as f) i;
             };
-        tables = laid_within st.store (ap (λ (x : Stepped). x.store) e) w;
+        tables = λ i. tables (tb i) (tr i) (e i).store.place_rows (tn i) (e i).store.slab;
       }
 
 pub carried : (h : Head) (t : Tables) (q : Request) {r : Outcome} {u : Tables} → stepped_of r u ≡ step (store_of h t) q → found_of r.found ≡ record_given (store_of h t) q → Within t u
     → Carried h t q r u
 carried h t q e f w = record { leaves = leaves_all e f w }
 
--- tables over which a store was laid are that store
-pub laid_store : (s : Store) {t u : Tables} → Laid s t u → {h : Head} → h ≡ s.head → store_of h u ≡ s
-laid_store s l eh i =
-    record {
-      head = eh i;
-      branch_rows = l.branches.rows i;
-      record_rows = l.records.rows i;
-      place_rows = l.places.rows i;
-      name_rows = l.names.rows i;
-      slab = l.slab i;
-    }
+-- the lengths of the tables of rows stay
+pub record SameLengths (t u : Tables) : Type 0 where
+  pub branches : length u.branches ≡ length t.branches
+  pub records : length u.records ≡ length t.records
+  pub names : length u.names ≡ length t.names
 
--- a store laid over its own tables, and one laid over another
-pub laid_self : (h : Head) (t : Tables) → Laid (store_of h t) t t
-laid_self h t = laid_within (store_of h t) refl (within_own t)
+-- tables over which a store was laid, and which stayed as long, are that store
+module _ (s : Store) {t u : Tables} (e : u ≡ laid s t) (k : SameLengths t u) where
+  branches_laid : BranchesLaid t.branches s.branch_rows u.branches
+  branches_laid = record { table = ap (λ (x : Tables). x.branches) e }
 
-pub laid_on : {s s' : Store} {t u v : Tables} → Laid s t u → Laid s' u v → Laid s' t v
-laid_on l m =
-    record {
-      branches = laid_then branch_kind l.branches m.branches;
-      records = laid_then record_kind l.records m.records;
-      places = laid_then place_kind l.places m.places;
-      names = laid_then name_kind l.names m.names;
-      slab = m.slab;
-    }
+  records_laid : RecordsLaid t.records s.record_rows u.records
+  records_laid = record { table = ap (λ (x : Tables). x.records) e }
+
+  names_laid : NamesLaid t.names s.name_rows u.names
+  names_laid = record { table = ap (λ (x : Tables). x.names) e }
+
+  pub laid_store : {h : Head} → h ≡ s.head → store_of h u ≡ s
+  laid_store eh =
+      let eb : branch_rows_of u.branches ≡ s.branch_rows = laid_rows branch_kind branches_laid k.branches in
+      let er : record_rows_of u.records ≡ s.record_rows = laid_rows record_kind records_laid k.records in
+      let en : name_rows_of u.names ≡ s.name_rows = laid_rows name_kind names_laid k.names in
+      λ i. record { head = eh i; branch_rows = eb i; record_rows = er i; place_rows = (e i).places; name_rows = en i; slab = (e i).slab }
+
+  -- another store laid over them is laid over the tables before
+  pub laid_on : (s' : Store) → laid s' u ≡ laid s' t
+  laid_on s' =
+      let eb : branch_table s'.branch_rows u.branches ≡ branch_table s'.branch_rows t.branches = laid_over_lem branch_kind branches_laid k.branches s'.branch_rows in
+      let er : record_table s'.record_rows u.records ≡ record_table s'.record_rows t.records = laid_over_lem record_kind records_laid k.records s'.record_rows in
+      let en : name_table s'.name_rows u.names ≡ name_table s'.name_rows t.names = laid_over_lem name_kind names_laid k.names s'.name_rows in
+      λ i. tables (eb i) (er i) s'.place_rows (en i) s'.slab
+
+-- a store laid over its own tables
+pub laid_self : (h : Head) (t : Tables) → t ≡ laid (store_of h t) t
+laid_self h t i =
+    tables ((laid_own branch_kind t.branches).table i) ((laid_own record_kind t.records).table i) t.places ((laid_own name_kind t.names).table i) t.slab
 
 -- only a read's answer has a page
 abbrev NoPage : Stepped → Type 0
@@ -144,17 +144,18 @@ page_given s (give n) = give_cases NoPage s n (λ k i j. refl) (λ g. refl)
 page_given s (withdraw high low) = withdraw_cases NoPage s high low (λ e. refl) (λ n e. refl)
 
 -- what a caller learns of a request carried out
-module _ {h : Head} {t : Tables} {q : Request} {r : Outcome} {u : Tables} (c : Carried h t q r u) where
+module _ {h : Head} {t : Tables} {q : Request} {r : Outcome} {u : Tables} (c : Carried h t q r u) (k : SameLengths t u) where
   pub carried_store : store_of r.head u ≡ (step (store_of h t) q).store
-  carried_store = laid_store (step (store_of h t) q).store c.leaves.tables (ap (λ (x : Outcome). x.head) c.leaves.outcome)
+  carried_store = laid_store (step (store_of h t) q).store c.leaves.tables k (ap (λ (x : Outcome). x.head) c.leaves.outcome)
 
   pub carried_answer : answer_of r u.slab ≡ (step (store_of h t) q).answer
   carried_answer =
       let e : found_of r.found ≡ record_given (store_of h t) q = ap (λ (x : Outcome). found_of x.found) c.leaves.outcome ∙ found_of_lem (record_given (store_of h t) q) in
       let page : found_page u.slab (found_of r.found) ≡ (step (store_of h t) q).answer.page =
-      ap₂ found_page c.leaves.tables.slab e ∙ sym (page_given (store_of h t) q) in
+      ap₂ found_page (ap (λ (x : Tables). x.slab) c.leaves.tables) e ∙ sym (page_given (store_of h t) q) in
       λ i. record { refusal = (c.leaves.outcome i).refusal; value = (c.leaves.outcome i).value; page = page i }
 
   -- and of tables that were laid over others: they still are
-  pub carried_laid : {s : Store} {t₀ : Tables} → Laid s t₀ t → Laid (store_of r.head u) t₀ u
-  carried_laid l = rw carried_store (laid_on l c.leaves.tables)
+  pub carried_laid : {t₀ : Tables} → t ≡ laid (store_of h t) t₀ → SameLengths t₀ t → u ≡ laid (store_of r.head u) t₀
+  carried_laid {t₀} e k₀ =
+      c.leaves.tables ∙ (laid_on (store_of h t) e k₀ (step (store_of h t) q).store ∙ ap (λ (x : Store). laid x t₀) (sym carried_store))

@@ -1,5 +1,5 @@
 -- What is lent as the store that it stands for, and what a request gives back and leaves of it.
-use Rattle.std.specs.Prelude.{◌≡◌, List, cond, ℕ, eqb}
+use Rattle.std.specs.Prelude.{◌≡◌, List, [], cond, ℕ, eqb}
 use Rattle.std.proofs.Math.Option.{Option, some, none}
 use Rattle.model.specs.declared.Head.{Head}
 use Rattle.model.specs.declared.Record.{Record}
@@ -10,9 +10,9 @@ use Rattle.model.specs.Wire.{Request, write, mark, revert, read_at, reclaim, giv
 use Rattle.rows.specs.declared.Found.{Found}
 use Rattle.rows.specs.declared.Found.TheVariants.{Row, Nothing}
 use Rattle.rows.specs.declared.Outcome.{Outcome}
-use Rattle.rows.specs.Rows.{branch_rows_of, record_rows_of, place_rows_of, name_rows_of, BranchesLaid, RecordsLaid, PlacesLaid, NamesLaid}
+use Rattle.rows.specs.Rows.{branch_rows_of, record_rows_of, name_rows_of, branch_table, record_table, name_table}
 
--- tables and slab as they are lent: bytes
+-- tables and slab as they are lent: flat numbers, and bytes
 pub record Tables : Type 0 where
   pub branches : List ℕ
   pub records : List ℕ
@@ -22,6 +22,10 @@ pub record Tables : Type 0 where
 
 abbrev pub tables : List ℕ → List ℕ → List ℕ → List ℕ → List ℕ → Tables
 tables bt rt pt nt slab = record { branches = bt; records = rt; places = pt; names = nt; slab = slab }
+
+-- the tables of numbers alone
+abbrev pub number_tables : List ℕ → List ℕ → List ℕ → List ℕ → Tables
+number_tables bt rt pt nt = tables bt rt pt nt []
 
 -- tables with one of them another
 abbrev pub with_branches : List ℕ → Tables → Tables
@@ -46,18 +50,16 @@ store_of head t =
       head = head;
       branch_rows = branch_rows_of t.branches;
       record_rows = record_rows_of t.records;
-      place_rows = place_rows_of t.places;
+      place_rows = t.places;
       name_rows = name_rows_of t.names;
       slab = t.slab;
     }
 
--- the tables u are t with a store laid over them: every row of each, and nothing else
-pub record Laid (s : Store) (t u : Tables) : Type 0 where
-  pub branches : BranchesLaid t.branches s.branch_rows u.branches
-  pub records : RecordsLaid t.records s.record_rows u.records
-  pub places : PlacesLaid t.places s.place_rows u.places
-  pub names : NamesLaid t.names s.name_rows u.names
-  pub slab : u.slab ≡ s.slab
+-- the tables with a store laid over them: every number
+abbrev pub laid : Store → Tables → Tables
+laid s t =
+    tables (branch_table s.branch_rows t.branches) (record_table s.record_rows t.records) s.place_rows
+    (name_table s.name_rows t.names) s.slab
 
 -- what a lookup found
 abbrev pub found_of : Found → Option Record
@@ -87,10 +89,10 @@ abbrev pub outcome_of : Stepped → Option Record → Outcome
 outcome_of st given =
     record { head = st.store.head; refusal = st.answer.refusal; value = st.answer.value; found = found_as given }
 
--- a step on what is lent: the outcome r, and tables t' where t were; every row is as the step says
+-- a step on what is lent: the outcome r, and tables t' where t were; every number is as the step says
 pub record Leaves (st : Stepped) (given : Option Record) (t : Tables) (r : Outcome) (t' : Tables) : Type 0 where
   pub outcome : r ≡ outcome_of st given
-  pub tables : Laid st.store t t'
+  pub tables : t' ≡ laid st.store t
 
 -- a request carried out on what is lent
 pub record Carried (head : Head) (t : Tables) (q : Request) (r : Outcome) (t' : Tables) : Type 0 where

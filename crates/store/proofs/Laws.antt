@@ -22,7 +22,7 @@ use Rattle.rows.specs.View.{Tables, tables, with_branches, with_names, store_of,
 use Rattle.rows.specs.declared.Found.{Found}
 use Rattle.rows.specs.declared.Outcome.{Outcome}
 use Rattle.rows.proofs.Laws.{branch_kind, record_kind, name_kind, record_count, branch_count, name_count}
-use Rattle.rows.proofs.Relaid.{laid_own, own-then, set_length, set_rows, set_own}
+use Rattle.rows.proofs.Relaid.{laid_own, own_then, set_length, set_rows, set_own}
 use Rattle.rows.proofs.View.{within_own, carried}
 use Rattle.store.specs.Asked.{Revertible, Readable}
 
@@ -124,7 +124,7 @@ module _ (head : Head) (bt nt : List ℕ) (m w x rows : ℕ) (l : rows ≡ lengt
     revert_done r u v b e eb eu ev t =
         carried head (lent t) (revert m w) (rw (e, set_rows branch_kind ev, set_rows branch_kind eu, eb) (free t).stepped) (rw e)
         (record {
-          branches = own-then branch_kind (set_own branch_kind eu) (set_length branch_kind eu) (set_own branch_kind ev);
+          branches = own_then branch_kind (set_own branch_kind eu) (set_length branch_kind eu) (set_own branch_kind ev);
           records = laid_own record_kind t.records;
           names = laid_own name_kind nt;
         })

@@ -25,7 +25,7 @@ use Rattle.model.proofs.Latest.{precedes→, →precedes}
 use Rattle.model.proofs.Places.{get_d_map_lt, shifted_low, shifted_high, first_free→}
 use Rattle.rows.specs.Rows.{record_rows_of, RecordsLaid}
 use Rattle.rows.proofs.Laws.{branch_kind, record_kind, name_kind}
-use Rattle.rows.proofs.Relaid.{laid_own, laid-rows}
+use Rattle.rows.proofs.Relaid.{laid_own, laid_rows}
 use Rattle.rows.proofs.View.{within_own, leaves_all, carried}
 use Rattle.rows.specs.declared.Outcome.{Outcome}
 use Rattle.rows.specs.View.{Tables, with_records, with_places, with_slab, store_of, record_given, Leaves, Carried, refused_with, accepted_with}
@@ -226,7 +226,7 @@ module _ (head : Head) (t : Tables) (a : ℕ) (page : List ℕ) (r : Outcome) wh
         let z : at + 1 ≡ suc at = omega arith in
         let x : before (record { address = a; moment = head.now; place = p }) (take head.records (record_rows_of t.records)) ≡ at = s.row p in
         let eu' : record_rows_of u ≡ put_in at (record { address = a; moment = head.now; place = p }) (take head.records (record_rows_of t.records)) ++ drop (head.records + 1) (record_rows_of t.records) =
-        laid-rows record_kind eu lu in
+        laid_rows record_kind eu lu in
         leaves_all (rw (q, lt-ltb _ _ room, f, x, eu', ev, ew, z)) (rw q) (record { branches = laid_own branch_kind t.branches; records = rw eu' eu; names = laid_own name_kind t.names })
 
   -- and the whole write

@@ -9,7 +9,7 @@ use Rattle.rows.specs.Rows.{branch_rows_of, BranchesLaid}
 use Rattle.rows.proofs.Laws.{branch_kind, branch_count}
 use Rattle.closing.specs.Closed.{marked}
 use Rattle.closing.proofs.Closing.{Going, going_start, going_end, going_drop, going_keep}
-use Rattle.rows.proofs.Relaid.{laid_own, own-then, set_length, set_rows, set_own}
+use Rattle.rows.proofs.Relaid.{laid_own, own_then, set_length, set_rows, set_own}
 use Rattle.closing.proofs.close_branches.Statement.{statement}
 use Rattle.closing.proofs.close_branches.Tie as tie
 
@@ -72,7 +72,7 @@ loop-again c =
     let t : l.loop.i < s.args.n = (in-loop-from-slice-known3 c).loop-test.taken in (
       going_keep l.loop.inv.0 room t (eq-eqb _ 1 c.before.before.before.before.if1.true) (branch-at-from-slice-known3 c).branch-at.ensures (set_rows branch_kind (set-branch-from-slice-known3 c).set-branch.ensures) (set_rows branch_kind c.before.before.set-branch2.ensures),
       set_length branch_kind c.before.before.set-branch2.ensures ∙ set_length branch_kind (set-branch-from-slice-known3 c).set-branch.ensures ∙ l.loop.inv.1,
-      own-then branch_kind (own-then branch_kind l.loop.inv.2 l.loop.inv.1 (set_own branch_kind (set-branch-from-slice-known3 c).set-branch.ensures)) (set_length branch_kind (set-branch-from-slice-known3 c).set-branch.ensures ∙ l.loop.inv.1) (set_own branch_kind c.before.before.set-branch2.ensures),
+      own_then branch_kind (own_then branch_kind l.loop.inv.2 l.loop.inv.1 (set_own branch_kind (set-branch-from-slice-known3 c).set-branch.ensures)) (set_length branch_kind (set-branch-from-slice-known3 c).set-branch.ensures ∙ l.loop.inv.1) (set_own branch_kind c.before.before.set-branch2.ensures),
     )
 
 add-i-2 : tie.Need-overflow-add-i-2 invariant-loop decreases-loop
@@ -87,7 +87,7 @@ loop-again-2 c =
     let s = l.before.before.before in
     let room : s.args.n ≤ length (branch_rows_of s.args.bt.now) = omega (arith, branch_count s.args.bt.now, s.pre) in
     let t : l.loop.i < s.args.n = (in-loop-from-else1 c).loop-test.taken in
-    (going_drop l.loop.inv.0 room t (ne_eqb _ 1 c.if1.false) (set_rows branch_kind c.before.before.before.before.set-branch.ensures), set_length branch_kind c.before.before.before.before.set-branch.ensures ∙ l.loop.inv.1, own-then branch_kind l.loop.inv.2 l.loop.inv.1 (set_own branch_kind c.before.before.before.before.set-branch.ensures))
+    (going_drop l.loop.inv.0 room t (ne_eqb _ 1 c.if1.false) (set_rows branch_kind c.before.before.before.before.set-branch.ensures), set_length branch_kind c.before.before.before.before.set-branch.ensures ∙ l.loop.inv.1, own_then branch_kind l.loop.inv.2 l.loop.inv.1 (set_own branch_kind c.before.before.before.before.set-branch.ensures))
 
 same_length : tie.Need-same-length invariant-loop decreases-loop
 same_length c = c.before.loop.invariant.1

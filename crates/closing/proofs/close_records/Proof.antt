@@ -10,7 +10,7 @@ use Rattle.rows.specs.Rows.{record_rows_of, RecordsLaid}
 use Rattle.rows.proofs.Laws.{record_kind, record_count}
 use Rattle.closing.specs.Closed.{marked}
 use Rattle.closing.proofs.Closing.{Going, going_start, going_end, going_drop, going_keep, partly, partly_start, partly_end, place_inside, places_keep, places_drop}
-use Rattle.rows.proofs.Relaid.{laid_own, own-then, set_length, set_rows, set_own}
+use Rattle.rows.proofs.Relaid.{laid_own, own_then, set_length, set_rows, set_own}
 use Rattle.closing.proofs.close_records.Statement.{statement}
 use Rattle.closing.proofs.close_records.Tie as tie
 
@@ -109,7 +109,7 @@ loop-again c =
       set_length record_kind c.before.before.set-record2.ensures ∙ set_length record_kind (set-record-from-slice-known4 c).set-record.ensures ∙ l.loop.inv.1,
       simp length-set l.loop.inv.2,
       places_keep _ rs _ s.args.pt.now s.pre.1 l.loop.inv.0 room t e d l.loop.inv.3,
-      own-then record_kind (own-then record_kind l.loop.inv.4 l.loop.inv.1 (set_own record_kind (set-record-from-slice-known4 c).set-record.ensures)) (set_length record_kind (set-record-from-slice-known4 c).set-record.ensures ∙ l.loop.inv.1) (set_own record_kind c.before.before.set-record2.ensures),
+      own_then record_kind (own_then record_kind l.loop.inv.4 l.loop.inv.1 (set_own record_kind (set-record-from-slice-known4 c).set-record.ensures)) (set_length record_kind (set-record-from-slice-known4 c).set-record.ensures ∙ l.loop.inv.1) (set_own record_kind c.before.before.set-record2.ensures),
     )
 
 mul-pt-2 : tie.Need-overflow-mul-pt-2 invariant-loop decreases-loop
@@ -143,7 +143,7 @@ loop-again-2 c =
       set_length record_kind c.before.before.before.before.before.set-record.ensures ∙ l.loop.inv.1,
       simp length-set l.loop.inv.2,
       places_drop _ rs _ s.args.pt.now s.pre.1 l.loop.inv.0 room t e d l.loop.inv.3,
-      own-then record_kind l.loop.inv.4 l.loop.inv.1 (set_own record_kind c.before.before.before.before.before.set-record.ensures),
+      own_then record_kind l.loop.inv.4 l.loop.inv.1 (set_own record_kind c.before.before.before.before.before.set-record.ensures),
     )
 
 same_length : tie.Need-same-length invariant-loop decreases-loop

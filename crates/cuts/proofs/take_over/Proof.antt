@@ -7,7 +7,7 @@ use borrow.Author.Tests.{eq-eqb, ne_eqb}
 use lib.ListN.{length}
 use Rattle.rows.specs.Rows.{branch_rows_of, BranchesLaid}
 use Rattle.rows.proofs.Laws.{branch_kind, branch_count}
-use Rattle.rows.proofs.Relaid.{laid_own, own-then, set_length, set_rows, set_own}
+use Rattle.rows.proofs.Relaid.{laid_own, own_then, set_length, set_rows, set_own}
 use Rattle.closing.specs.Closed.{marked}
 use Rattle.cuts.proofs.Recutting.{Going, going_start, going_end, going_stairs, going_held, going_stays, going_goes}
 use Rattle.cuts.proofs.take_over.Statement.{statement}
@@ -92,7 +92,7 @@ loop-again-2 c =
     let w = c.before.before.set-branch.ensures in (
       going_goes l.loop.inv.0 s.pre.1 (room s) i.loop-test.taken r.before.before.branch-at.ensures r.row_Near.ensures (ne_eqb _ 1 (goes d).if1.left) d.branch-at2.ensures (set_rows branch_kind w),
       set_length branch_kind w ∙ l.loop.inv.1,
-      own-then branch_kind l.loop.inv.2 l.loop.inv.1 (set_own branch_kind w),
+      own_then branch_kind l.loop.inv.2 l.loop.inv.1 (set_own branch_kind w),
     )
 
 same_length : tie.Need-same-length invariant-loop decreases-loop

@@ -5,7 +5,7 @@ use lib.ListN.{length, get_or}
 use Rattle.model.specs.Store.{zero_name, is_called}
 use Rattle.rows.specs.Rows.{name_rows_of, NamesLaid}
 use Rattle.rows.proofs.Laws.{name_kind}
-use Rattle.rows.proofs.Relaid.{laid_own, own-then, set_length, set_rows, set_own}
+use Rattle.rows.proofs.Relaid.{laid_own, own_then, set_length, set_rows, set_own}
 use Rattle.closing.proofs.Closing.{Going, going_start, going_end, going_next, going_drop, going_keep}
 use Rattle.naming.proofs.Laws.{name_room, stays, stays_without}
 use mathlib.Core.Bool.{not}
@@ -62,7 +62,7 @@ loop-again c =
     let z = d.before.before.before.set-name.ensures in (
       going_drop (l d).loop.invariant.0 (room d) (more d) (ap not (sym (told d) ∙ c.if1.true)) (set_rows name_kind z),
       set_length name_kind z ∙ (l d).loop.invariant.1,
-      own-then name_kind (l d).loop.invariant.2 (l d).loop.invariant.1 (set_own name_kind z),
+      own_then name_kind (l d).loop.invariant.2 (l d).loop.invariant.1 (set_own name_kind z),
     )
 
 set-name-requires-2 : tie.Need-set-name-requires-2 invariant-loop decreases-loop
@@ -86,7 +86,7 @@ loop-again-2 c =
     let h = set_length name_kind z ∙ (l d).loop.invariant.1 in (
       going_keep (l d).loop.invariant.0 (room d) (more d) (ap not (sym (told d) ∙ e.if1.false)) (r d).name-at.ensures (set_rows name_kind z) (set_rows name_kind y),
       set_length name_kind y ∙ h,
-      own-then name_kind (own-then name_kind (l d).loop.invariant.2 (l d).loop.invariant.1 (set_own name_kind z)) h (set_own name_kind y),
+      own_then name_kind (own_then name_kind (l d).loop.invariant.2 (l d).loop.invariant.1 (set_own name_kind z)) h (set_own name_kind y),
     )
 
 same_length : tie.Need-same-length invariant-loop decreases-loop

@@ -1,51 +1,64 @@
-use mathlib.Core.Path.{sym, ◌∙◌}
+use mathlib.Core.Path.{sym}
 use Rattle.rows.proofs.Laws.{branch_get}
 use borrow.Author.Rules.{rules}
 use Rattle.rows.proofs.branch_at.Statement.{statement}
 use Rattle.rows.proofs.branch_at.Tie as tie
-use Rattle.rows.proofs.branch_at.Reads as reads
-use Rattle.rows.proofs.branch_at.Lts as lts
-use Rattle.rows.proofs.get.Reads as get-reads
 
 mul_at : tie.Need-overflow-mul-at
 mul_at c = search rules
 
-get-requires : tie.Need-get-requires
-get-requires c κs = search rules
+mul-t4 : tie.Need-overflow-mul-t4
+mul-t4 c = search rules
 
-add-get : tie.Need-overflow-add-get
-add-get c = search rules
+shared-slice-read-t6 : tie.Need-shared-slice-read-t6
+shared-slice-read-t6 c = search rules
 
-get-requires-2 : tie.Need-get-requires-2
-get-requires-2 c κs = search rules
+add-t7 : tie.Need-overflow-add-t7
+add-t7 c = search rules
 
-add-get-2 : tie.Need-overflow-add-get-2
-add-get-2 c = search rules
+mul-t8 : tie.Need-overflow-mul-t8
+mul-t8 c = search rules
 
-get-requires-3 : tie.Need-get-requires-3
-get-requires-3 c κs = search rules
+shared-slice-read-t10 : tie.Need-shared-slice-read-t10
+shared-slice-read-t10 c = search rules
 
-add-get-3 : tie.Need-overflow-add-get-3
-add-get-3 c = search rules
+add-t11 : tie.Need-overflow-add-t11
+add-t11 c = search rules
 
-get-requires-4 : tie.Need-get-requires-4
-get-requires-4 c κs = search rules
+mul-t12 : tie.Need-overflow-mul-t12
+mul-t12 c = search rules
+
+shared-slice-read-t14 : tie.Need-shared-slice-read-t14
+shared-slice-read-t14 c = search rules
+
+add-t15 : tie.Need-overflow-add-t15
+add-t15 c = search rules
+
+mul-t16 : tie.Need-overflow-mul-t16
+mul-t16 c = search rules
+
+shared-slice-read-t18 : tie.Need-shared-slice-read-t18
+shared-slice-read-t18 c = search rules
 
 returns : tie.Need-returns
 returns c =
-    let s = c.before.before.before.before.before in
-    (λ j. record { start = c.before.before.before.get.ensures j; end = c.before.before.get2.ensures j; cut = c.before.get3.ensures j; order = c.get4.ensures j }) ∙ sym (branch_get s.args.t.now s.args.i s.requires)
+    let s = c.before.before.before.before in
+    sym (branch_get s.args.t.now s.args.i s.requires)
 
 pub branch-at-spec : {M : Type 1} → statement M
 branch-at-spec =
     tie.close
     (tie.spec
     mul_at
-    get-requires
-    add-get
-    get-requires-2
-    add-get-2
-    get-requires-3
-    add-get-3
-    get-requires-4
+    mul-t4
+    shared-slice-read-t6
+    add-t7
+    mul-t8
+    shared-slice-read-t10
+    add-t11
+    mul-t12
+    shared-slice-read-t14
+    add-t15
+    mul-t16
+    shared-slice-read-t18
     returns)

@@ -1,36 +1,50 @@
-use mathlib.Core.Path.{sym, ◌∙◌}
+use mathlib.Core.Path.{sym}
 use Rattle.rows.proofs.Laws.{name_get}
 use borrow.Author.Rules.{rules}
 use Rattle.rows.proofs.name_at.Statement.{statement}
 use Rattle.rows.proofs.name_at.Tie as tie
-use Rattle.rows.proofs.name_at.Reads as reads
-use Rattle.rows.proofs.name_at.Lts as lts
-use Rattle.rows.proofs.get.Reads as get-reads
 
 mul_at : tie.Need-overflow-mul-at
 mul_at c = search rules
 
-get-requires : tie.Need-get-requires
-get-requires c κs = search rules
+mul-t4 : tie.Need-overflow-mul-t4
+mul-t4 c = search rules
 
-add-get : tie.Need-overflow-add-get
-add-get c = search rules
+shared-slice-read-t6 : tie.Need-shared-slice-read-t6
+shared-slice-read-t6 c = search rules
 
-get-requires-2 : tie.Need-get-requires-2
-get-requires-2 c κs = search rules
+add-t7 : tie.Need-overflow-add-t7
+add-t7 c = search rules
 
-add-get-2 : tie.Need-overflow-add-get-2
-add-get-2 c = search rules
+mul-t8 : tie.Need-overflow-mul-t8
+mul-t8 c = search rules
 
-get-requires-3 : tie.Need-get-requires-3
-get-requires-3 c κs = search rules
+shared-slice-read-t10 : tie.Need-shared-slice-read-t10
+shared-slice-read-t10 c = search rules
+
+add-t11 : tie.Need-overflow-add-t11
+add-t11 c = search rules
+
+mul-t12 : tie.Need-overflow-mul-t12
+mul-t12 c = search rules
+
+shared-slice-read-t14 : tie.Need-shared-slice-read-t14
+shared-slice-read-t14 c = search rules
 
 returns : tie.Need-returns
-returns c =
-    let s = c.before.before.before.before in
-    (λ j. record { high = c.before.before.get.ensures j; low = c.before.get2.ensures j; moment = c.get3.ensures j }) ∙ sym (name_get s.args.t.now s.args.i s.requires)
+returns c = sym (name_get c.before.before.before.args.t.now c.before.before.before.args.i c.before.before.before.requires)
 
 pub name-at-spec : {M : Type 1} → statement M
 name-at-spec =
     tie.close
-    (tie.spec mul_at get-requires add-get get-requires-2 add-get-2 get-requires-3 returns)
+    (tie.spec
+    mul_at
+    mul-t4
+    shared-slice-read-t6
+    add-t7
+    mul-t8
+    shared-slice-read-t10
+    add-t11
+    mul-t12
+    shared-slice-read-t14
+    returns)

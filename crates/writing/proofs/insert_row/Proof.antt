@@ -1,4 +1,4 @@
-use Rattle.rows.proofs.Relaid.{laid_own, own-then, set_length, set_rows, set_own}
+use Rattle.rows.proofs.Relaid.{laid_own, own_then, set_length, set_rows, set_own}
 use mathlib.Core.Path.{◌≡◌, refl, ◌∙◌}
 use native.Mathlib.Omega.{arith}
 use borrow.Author.Rules.{rules}
@@ -44,7 +44,7 @@ loop-again c =
       moved_step (record_rows_of rt) (record_rows_of l.loop.rt) _ s.args.n s.args.at l.loop.k l.loop.invariant.0 (omega (arith, record_count rt, s.requires)) g.before.before.loop-test.true
           (rw (← g.record-at.ensures) (set_rows record_kind b.set-record.ensures)),
       set_length record_kind b.set-record.ensures ∙ l.loop.invariant.1,
-      own-then record_kind l.loop.invariant.2 l.loop.invariant.1 (set_own record_kind b.set-record.ensures),
+      own_then record_kind l.loop.invariant.2 l.loop.invariant.1 (set_own record_kind b.set-record.ensures),
     )
 
 set-record-requires-2 : tie.Need-set-record-requires-2 invariant-loop decreases-loop
@@ -62,7 +62,7 @@ returns c =
     let rt = s.args.rt.now in
     let z : s.args.at ≡ l.loop.k = omega (arith, l.loop.invariant.0.from, o.loop-test) in
     rw (← moved_all (record_rows_of rt) (record_rows_of l.loop.rt) _ s.args.n s.args.at l.loop.k l.loop.invariant.0 (omega (arith, record_count rt, s.requires)) s.args.r z (set_rows record_kind b.set-record2.ensures))
-    (own-then record_kind l.loop.invariant.2 l.loop.invariant.1 (set_own record_kind b.set-record2.ensures))
+    (own_then record_kind l.loop.invariant.2 l.loop.invariant.1 (set_own record_kind b.set-record2.ensures))
 
 pub insert-row-spec : {M : Type 1} → statement M
 insert-row-spec =
