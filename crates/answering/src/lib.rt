@@ -1,4 +1,6 @@
 // Answers as bytes: the answer writer.
+#![tactic(auto)]
+
 ghost use Rattle.std.specs.Prelude.{◌≡◌, List, ℕ, ◌+◌, ◌*◌, ◌≤◌, ◌<◌, length};
 ghost use Rattle.model.specs.Store.{page_at};
 ghost use Rattle.rows.specs.View.{found_of};

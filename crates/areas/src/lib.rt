@@ -1,1 +1,2 @@
 // No code: the areas of bytes that a C program lends, and the store that they hold.
+#![tactic(auto)]

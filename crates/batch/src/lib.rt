@@ -1,4 +1,6 @@
 // A batch: the checks once, then requests one after the other, each on the store that the last one left; the live disk follows.
+#![tactic(auto)]
+
 ghost use Rattle.std.specs.Prelude.{◌≡◌, length};
 ghost use Rattle.model.specs.Batch.{batch};
 ghost use Rattle.live.specs.Live.{disk_of, played};
@@ -11,7 +13,7 @@ use model::Head;
 use wire::Parsed;
 
 // What became of the requests: the head, the stop number, the requests answered, their bytes, and the bytes of their answers.
-#[derive(Drop)]
+#[derive(Clone, Copy)]
 pub struct Done {
     pub head: Head,
     pub stop: u32,
@@ -21,7 +23,7 @@ pub struct Done {
 }
 
 // What a batch reports: what became of its requests, and how many record rows the table checks read.
-#[derive(Drop)]
+#[derive(Clone, Copy)]
 pub struct Batched {
     pub done: Done,
     pub rows: usize,

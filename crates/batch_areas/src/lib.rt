@@ -1,4 +1,6 @@
 // A batch on areas of bytes: head and tables are decoded to local arrays of numbers, and encoded back.
+#![tactic(auto)]
+
 ghost use Rattle.std.specs.Prelude.{◌≡◌, true};
 ghost use Rattle.live.specs.Live.{disk_of};
 ghost use Rattle.areas.specs.Lent.{lent, fits};

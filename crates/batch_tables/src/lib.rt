@@ -1,4 +1,6 @@
 // A batch on tables of bytes: they are decoded to arrays of numbers that are lent, and encoded back.
+#![tactic(auto)]
+
 ghost use Rattle.std.specs.Prelude.{◌≡◌, length};
 ghost use Rattle.model.specs.Batch.{batch};
 ghost use Rattle.live.specs.Live.{disk_of, played};
@@ -13,7 +15,7 @@ use model::Head;
 use record_check::Finding;
 
 // What a batch on tables of bytes came to: refused by the checks, or carried out.
-#[derive(Drop)]
+#[derive(Clone, Copy)]
 pub enum Tried {
     Refused(Finding),
     Served(Batched),

@@ -1,4 +1,6 @@
 // The branch that holds a moment, and a byte for each branch: 1 where a reclaim keeps it.
+#![tactic(auto)]
+
 ghost use Rattle.std.specs.Prelude.{◌≡◌, [], true, ◌≤◌, ◌<◌, length, take};
 ghost use Rattle.model.specs.Store.{moments};
 ghost use Rattle.model.specs.Step.{stays};

@@ -1,4 +1,5 @@
 // The batch program on one file after the other, each for a fresh store of its own: the file's name, a line, and its output, a line.
+#![tactic(auto)]
 
 fn case(name: &[u8]) {
     let file = os::open_read(name);

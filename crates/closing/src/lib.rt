@@ -1,4 +1,6 @@
 // Rows close up by their marks, and the places of the records follow.
+#![tactic(auto)]
+
 ghost use Rattle.std.specs.Prelude.{◌≤◌, ◌<◌, length};
 ghost use Rattle.rows.specs.Rows.{record_rows_of, BranchesIn, RecordsIn};
 ghost use Rattle.model.specs.ByNumber.{Names};

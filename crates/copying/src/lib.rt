@@ -1,4 +1,6 @@
 // The copying step: stale pages of the live disk are brought to date, lowest address first, and counted.
+#![tactic(auto)]
+
 ghost use Rattle.std.specs.Prelude.{◌≡◌, List, ℕ, ◌<◌};
 ghost use Rattle.live.specs.Live.{disk_of, brought};
 ghost use Rattle.rows.specs.View.{tables, store_of};

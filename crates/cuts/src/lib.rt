@@ -1,4 +1,6 @@
 // Where a branch goes, each child takes over its cut.
+#![tactic(auto)]
+
 ghost use Rattle.std.specs.Prelude.{◌≤◌, length};
 ghost use Rattle.rows.specs.Rows.{branch_rows_of, BranchesIn, BranchesLaid};
 ghost use Rattle.model.specs.ByNumber.{Line};

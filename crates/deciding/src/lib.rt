@@ -1,4 +1,6 @@
 // What a reclaim to a floor keeps: the moments that decide it, and the records that are not older than the floor.
+#![tactic(auto)]
+
 ghost use Rattle.std.specs.Prelude.{◌≡◌, ◌+◌, ◌≤◌, ◌<◌, length, take};
 ghost use Rattle.model.specs.Store.{moments};
 ghost use Rattle.rows.specs.Rows.{branch_rows_of, record_rows_of, name_rows_of, BranchesIn, RecordsIn, NamesIn};

@@ -1,4 +1,6 @@
 // The checks that every call makes: those of the tables, then 18, that of the live disk.
+#![tactic(auto)]
+
 ghost use Rattle.std.specs.Prelude.{◌≡◌, max};
 ghost use Rattle.live.specs.Live.{disk_of, marks_small, disk_check};
 ghost use Rattle.rows.specs.View.{tables};

@@ -1,4 +1,6 @@
 // The events by falling moment: the wanted moments, and the cuts at which rows hang.
+#![tactic(auto)]
+
 ghost use Rattle.std.specs.Prelude.{◌≡◌, ◌+◌, ◌*◌, ◌-◌, ◌≤◌, ◌<◌, length};
 ghost use Rattle.rows.specs.Rows.{branch_rows_of, BranchesIn};
 ghost use Rattle.model.specs.ByNumber.{Line};

@@ -1,4 +1,6 @@
 // The live disk follows the requests of a batch: a write goes to both, a revert makes every page stale.
+#![tactic(auto)]
+
 ghost use Rattle.std.specs.Prelude.{◌≡◌, map};
 ghost use Rattle.live.specs.Live.{disk_of, staled, following};
 ghost use Rattle.wire.specs.Requests.{request_of};

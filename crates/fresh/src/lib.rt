@@ -1,4 +1,6 @@
 // Making a fresh store over what is lent.
+#![tactic(auto)]
+
 ghost use Rattle.std.specs.Prelude.{◌≡◌, length};
 ghost use Rattle.rows.specs.Rows.{zeros};
 ghost use Rattle.rows.specs.View.{tables};
@@ -7,7 +9,7 @@ ghost use Rattle.fresh.specs.Fresh.{Fresh};
 use model::{Branch, Head, OPEN_END};
 
 // The head of the fresh store with 0, or the head as it was with the refusal.
-#[derive(Drop)]
+#[derive(Clone, Copy)]
 pub struct Made {
     pub head: Head,
     pub refusal: u32,

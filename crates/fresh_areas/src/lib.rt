@@ -1,4 +1,6 @@
 // A fresh store in areas of bytes: made in local arrays of numbers, and written as bytes.
+#![tactic(auto)]
+
 ghost use Rattle.std.specs.Prelude.{◌≡◌, true};
 ghost use Rattle.rows.specs.View.{tables, number_tables};
 ghost use Rattle.tables.specs.Tables.{Room};

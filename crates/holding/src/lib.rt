@@ -1,4 +1,6 @@
 // Which branch row holds a moment, where the counted rows are chained (check 2 of crate soundness).
+#![tactic(auto)]
+
 ghost use Rattle.std.specs.Prelude.{◌≡◌, true, cond, ◌-◌, ◌≤◌, ◌<◌, ltb};
 ghost use Rattle.model.specs.Soundness.{chained};
 ghost use Rattle.model.specs.ByNumber.{branch, newest_of, held, Stairs};
@@ -8,7 +10,7 @@ ghost use Rattle.holding.specs.Search.{FirstEnding, unbroken};
 use model::Head;
 
 // The answer to a test that may look at branches, and which of them to look at first the next time.
-#[derive(Drop)]
+#[derive(Clone, Copy)]
 pub struct Looked {
     pub ok: bool,
     pub row: usize,

@@ -1,4 +1,6 @@
 // The entries for C: areas of bytes of any lengths, and numbers told through pointers.
+#![tactic(auto)]
+
 ghost use Rattle.live.specs.Live.{disk_of};
 ghost use Rattle.areas.specs.Lent.{lent};
 ghost use Rattle.fresh_areas.specs.Fresh.{fresh_left, FreshDone};

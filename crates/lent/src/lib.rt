@@ -1,4 +1,6 @@
 // The lent forms: the head by `&mut`, and the branch table as a slice of rows.
+#![tactic(auto)]
+
 ghost use Rattle.std.specs.Prelude.{◌≡◌, ◌++◌, ◌*◌, ◌<◌, length, get_or, set, take, drop};
 ghost use Rattle.model.specs.Store.{zero_branch};
 ghost use Rattle.live.specs.Live.{disk_of};
@@ -55,7 +57,7 @@ pub fn store_rows(rows: &mut [Branch], table: &[u32])
 
 // What a batch reports: the stop number, the requests answered, their bytes, the bytes of their answers, and how many record rows the
 // table checks read.
-#[derive(Drop)]
+#[derive(Clone, Copy)]
 pub struct Report {
     pub stop: u32,
     pub answered: usize,
@@ -65,7 +67,7 @@ pub struct Report {
 }
 
 // A head with a report.
-#[derive(Drop)]
+#[derive(Clone, Copy)]
 pub struct Ended {
     pub head: Head,
     pub report: Report,

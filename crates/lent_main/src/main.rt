@@ -1,6 +1,8 @@
 // The worked session P1 to P10, its two reverts with work orders 4,711 and 65,535, and a named state behind it, as one batch on a
 // fresh store, through the lent forms. Standard input holds the requests; the answers go to standard output, then the report and
 // the head, a line each.
+#![tactic(auto)]
+
 ghost use Rattle.std.specs.Prelude.{◌≡◌, ◌*◌, length};
 ghost use Rattle.rows.specs.Rows.{zeros, record_width, name_width};
 ghost use Rattle.lent_main.specs.Session.{Replies};

@@ -1,4 +1,6 @@
 // A list of work orders on areas of bytes: head and tables are decoded to local arrays of numbers, and only read.
+#![tactic(auto)]
+
 ghost use Rattle.std.specs.Prelude.{◌≡◌, true};
 ghost use Rattle.rows.specs.View.{tables, number_tables};
 ghost use Rattle.tables.specs.Tables.{numbers_in, Room};

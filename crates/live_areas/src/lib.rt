@@ -1,4 +1,6 @@
 // A live read and a copying step on areas of bytes: head and tables are decoded to local arrays of numbers, and only read.
+#![tactic(auto)]
+
 ghost use Rattle.std.specs.Prelude.{◌≡◌, true};
 ghost use Rattle.live.specs.Live.{disk_of};
 ghost use Rattle.rows.specs.View.{tables, number_tables};

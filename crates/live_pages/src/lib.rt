@@ -1,4 +1,6 @@
 // A live read: where the page of an address lies, and that page, handed out as a part of the live disk or of the stored pages.
+#![tactic(auto)]
+
 ghost use Rattle.std.specs.Prelude.{◌≡◌, List, ℕ, ◌<◌, length};
 ghost use Rattle.live.specs.Live.{disk_of, found_now, spot_of};
 ghost use Rattle.rows.specs.View.{Tables, tables, with_branches, with_records, store_of, found_of};

@@ -1,4 +1,6 @@
 // The lookup: the record that an address has at a moment.
+#![tactic(auto)]
+
 ghost use Rattle.std.specs.Prelude.{◌≡◌, take};
 ghost use Rattle.model.specs.ByNumber.{Asc, Falls, find, newest_of};
 ghost use Rattle.rows.specs.Rows.{branch_rows_of, record_rows_of, BranchesIn, RecordsIn};

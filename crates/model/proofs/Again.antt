@@ -8,7 +8,7 @@ use lib.ListN.{length, take, drop, get_or, replicate, replicate-append-replicate
 use lib.Seq.{drop-append_seam}
 use Rattle.model.specs.declared.Branch.{Branch}
 use Rattle.model.specs.declared.Record.{Record}
-use Rattle.model.specs.Store.{Store, branches, newest, records, names, moments, keep, zero_branch, zero_record}
+use Rattle.model.specs.Store.{Store, newest, records, names, moments, keep, zero_branch, zero_record}
 use Rattle.model.specs.Lookup.{lookup, is_at, readable_from, is_given}
 use Rattle.model.specs.Wire.{reclaim, accepted}
 use Rattle.model.specs.Step.{head_with, renumbered, closed_up, stays, with_cut, settled, reclaimed, step}

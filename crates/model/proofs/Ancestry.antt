@@ -137,6 +137,7 @@ pub record Below (b d : Branch) : Type 0 where
 
 -- earlier rows end before a row starts
 pub earlier_below : (floor : ℕ) (b : Branch) (bs : List Branch) (d : Branch) → Chain floor (b ∷ bs) → d ∈ bs → Below b d
+earlier_below floor b [] d h x'' = elim x'' [ ]
 earlier_below floor b (c ∷ bs) d h (inl e) =
     let o : c.start ≤ c.end = chain_ordered floor c bs h.1 in
     let l : Link floor b c bs = h.0 in

@@ -75,6 +75,7 @@ module _ {A : Type 0} where
 
   pub keep_mem : (k : A → Bool) (x : A) (xs : List A) → x ∈ xs → k x ≡ true → x ∈ keep k xs
   unfolding keep
+  keep_mem k x [] x3 e = elim x3 [ ]
   keep_mem k x (y ∷ ys) (inl p) e =
       let e' : k y ≡ true = rw p at e in
       rw e' (inl p)
@@ -116,6 +117,7 @@ module _ {A : Type 0} where
 
   pub any_mem : (k : A → Bool) (x : A) (xs : List A) → x ∈ xs → k x ≡ true → any k xs ≡ true
   unfolding any
+  any_mem k x [] x3 e = elim x3 [ ]
   any_mem k x (y ∷ ys) (inl p) e = rw (← p, e)
   any_mem k x (y ∷ ys) (inr n) e =
       let ih : any k ys ≡ true = any_mem k x ys n e in
@@ -146,6 +148,7 @@ module _ {A : Type 0} where
 
   -- membership in a list that is put together
   pub mem_left : (x : A) (xs ys : List A) → x ∈ xs → x ∈ (xs ++ ys)
+  mem_left x [] ys x'' = elim x'' [ ]
   mem_left x (y ∷ xs) ys (inl e) = inl e
   mem_left x (y ∷ xs) ys (inr m) = inr (mem_left x xs ys m)
 
@@ -168,20 +171,24 @@ module _ {A : Type 0} where
   mem_drop n x xs m = rw (take-append-drop n xs) at (mem_right x (take n xs) (drop n xs) m)
 
   pub mem_set : (x : A) (xs : List A) (i : ℕ) (v : A) → x ∈ set xs i v → (x ≡ v) ⊎ (x ∈ xs)
+  mem_set x [] i v x'' = elim x'' [ ]
   mem_set x (y ∷ xs) zero v (inl e) = inl e
   mem_set x (y ∷ xs) zero v (inr m) = inr (inr m)
   mem_set x (y ∷ xs) (suc i) v (inl e) = inr (inl e)
   mem_set x (y ∷ xs) (suc i) v (inr m) = elim (mem_set x xs i v m) [ inl e ↦ inl e | inr k ↦ inr (inr k) ]
 
   pub mem_replicate : (x : A) (n : ℕ) (z : A) → x ∈ replicate n z → x ≡ z
+  mem_replicate x zero z x'' = elim x'' [ ]
   mem_replicate x (suc n) z (inl e) = e
   mem_replicate x (suc n) z (inr m) = mem_replicate x n z m
 
   pub mem_map : {B : Type 0} (f : A → B) (x : A) (xs : List A) → x ∈ xs → f x ∈ map f xs
+  mem_map {B = B} f x [] x'' = elim x'' [ ]
   mem_map f x (y ∷ xs) (inl e) = inl (ap f e)
   mem_map f x (y ∷ xs) (inr m) = inr (mem_map f x xs m)
 
   pub map_mem : {B : Type 0} (f : A → B) (y : B) (xs : List A) → y ∈ map f xs → (x : A) × (x ∈ xs) × (y ≡ f x)
+  map_mem {B = B} f y [] x' = elim x' [ ]
   map_mem f y (x ∷ xs) (inl e) = (x, inl refl, e)
   map_mem f y (x ∷ xs) (inr m) =
       let ih : (z : A) × (z ∈ xs) × (y ≡ f z) = map_mem f y xs m in
@@ -204,6 +211,7 @@ module _ {A : Type 0} where
   get_d_mem (x ∷ xs) (suc i) z l = inr (get_d_mem xs i z (omega arith))
 
   pub mem_get_d : (x : A) (xs : List A) (z : A) → x ∈ xs → (i : ℕ) × (i < length xs) × (get_or xs i z ≡ x)
+  mem_get_d x [] z x'' = elim x'' [ ]
   mem_get_d x (y ∷ xs) z (inl e) = (0, omega arith, sym e)
   mem_get_d x (y ∷ xs) z (inr m) =
       let ih : (i : ℕ) × (i < length xs) × (get_or xs i z ≡ x) = mem_get_d x xs z m in
@@ -218,6 +226,7 @@ module _ {A : Type 0} where
   reverse_snoc xs y = reverse_aux_append xs (y ∷ []) []
 
   mem_reverse_aux : (x : A) (xs ys : List A) → (x ∈ xs) ⊎ (x ∈ ys) → x ∈ reverse_aux xs ys
+  mem_reverse_aux x [] ys (inl x3) = elim x3 [ ]
   mem_reverse_aux x [] ys (inr m) = m
   mem_reverse_aux x (y ∷ xs) ys (inl (inl e)) = mem_reverse_aux x xs (y ∷ ys) (inr (inl e))
   mem_reverse_aux x (y ∷ xs) ys (inl (inr m)) = mem_reverse_aux x xs (y ∷ ys) (inl m)

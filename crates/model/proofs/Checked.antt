@@ -89,6 +89,7 @@ placed→named s i (r ∷ rs) e =
     (p.0.inside, p.0.named, placed→named s (suc i) rs p.1)
 
 pub placed→fits : (s : Store) (i : ℕ) (rs : List Record) → placed s i rs ≡ true → (r : Record) → r ∈ rs → Fits s.head.size s.head.now (newest s) r
+placed→fits s i [] e r x'' = elim x'' [ ]
 placed→fits s i (q ∷ rs) e r (inl d) = rw d (placed_row s i q rs e).0.fits
 placed→fits s i (q ∷ rs) e r (inr m) = placed→fits s (suc i) rs (placed_row s i q rs e).1 r m
 

@@ -7,7 +7,7 @@ use lib.ListN.{length, get_or, take, replicate, length-append, length-take}
 use lib.Seq.{length-take-le}
 use Rattle.model.specs.declared.Head.{Head}
 use Rattle.model.specs.declared.Record.{Record}
-use Rattle.model.specs.Store.{Store, branches, newest, records, names, keep, page_at, ◌∈◌}
+use Rattle.model.specs.Store.{Store, branches, newest, records, keep, page_at, ◌∈◌}
 use Rattle.model.specs.Lookup.{lookup}
 use Rattle.model.specs.Soundness.{used, in_use}
 use Rattle.model.specs.Fresh.{fresh_check, fresh, made_fresh}

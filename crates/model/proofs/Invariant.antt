@@ -9,7 +9,7 @@ use lib.ListN.{length, get_or}
 use borrow.Author.Tests.{leb-false, lt-ltb, le-leb, eq-eqb}
 use Rattle.model.specs.declared.Branch.{Branch}
 use Rattle.model.specs.declared.Record.{Record}
-use Rattle.model.specs.Store.{Store, branches, newest, records, names, open_end, found_page, ◌∈◌}
+use Rattle.model.specs.Store.{Store, newest, records, names, open_end, found_page, ◌∈◌}
 use Rattle.model.specs.Lookup.{lookup, readable}
 use Rattle.model.specs.Soundness.{between, sizes_allowed, in_range, chained, open_row, branches_sound, names_sound, rows_sound, ascending, by_itself, placed, used, records_sound, table_check}
 use Rattle.model.specs.Reference.{Snapshot, Reference}

@@ -14,7 +14,7 @@ use Rattle.model.specs.declared.Name.{Name}
 use Rattle.model.specs.declared.Head.{Head}
 use Rattle.model.specs.Store.{Store, branches, newest, records, names, is_called, without, keep, open_end, zero_branch, zero_record, zero_name, ◌∈◌}
 use Rattle.model.specs.Lookup.{readable, is_given}
-use Rattle.model.specs.Wire.{Request, write, mark, revert, read_at, reclaim, give, withdraw, parse, end, one, answer_bytes}
+use Rattle.model.specs.Wire.{Request, write, mark, revert, read_at, reclaim, give, withdraw, parse, one, answer_bytes}
 use Rattle.model.specs.Step.{Stepped, standing, first_free, before, shifted, put_in, inserted, written, do_write, do_mark, branched, do_revert, do_read, renumbered, closed_up, landing, with_cut, settled, reclaimed, do_reclaim, with_names, step}
 use Rattle.model.specs.Batch.{run, batch}
 use Rattle.model.specs.ByNumber.{Sizes, Sound, Whole, Names}

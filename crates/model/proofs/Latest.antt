@@ -115,6 +115,7 @@ latest_skip (x ∷ xs) r ys a lo hi e = rw (latest_skip xs r ys a lo hi e)
 pub latest_top : (rs : List Record) (a lo hi : ℕ) (r : Record) → Asc rs → r ∈ rs → r.address ≡ a → r.moment ≡ hi → lo ≤ hi
     → latest rs a lo hi ≡ some r
 unfolding latest
+latest_top [] a lo hi r asc x5 ra rm l = elim x5 [ ]
 latest_top (q ∷ rs) a lo hi r asc (inl e) ra rm l =
     let w : within a lo hi q ≡ true =
     rw (← e) (→within a lo hi r (record { at = ra; low = omega arith; high = omega arith })) in
@@ -182,6 +183,7 @@ first_found_keep k rs a (g ∷ gs) h =
 
 -- a record is told by its address and moment
 pub asc_unique : (rs : List Record) (q r : Record) → Asc rs → q ∈ rs → r ∈ rs → q.address ≡ r.address → q.moment ≡ r.moment → q ≡ r
+asc_unique [] q r asc x5 _ ea em = elim x5 [ ]
 asc_unique (x ∷ rs) q r asc (inl e) (inl d) ea em = e ∙ sym d
 asc_unique (x ∷ rs) q r asc (inl e) (inr m) ea em =
     let b : Before q r = rw e (precedes→ x r (asc.0 r m)) in

@@ -9,7 +9,7 @@ use lib.ListN.{length, get_or, set, length-map, get_or-eq_default}
 use lib.Seq.{get_or-set_other}
 use borrow.Author.Tests.{ltb-true, ltb-false}
 use Rattle.model.specs.declared.Record.{Record}
-use Rattle.model.specs.Store.{Store, branches, records, open_end, ◌∈◌}
+use Rattle.model.specs.Store.{Store, records, open_end, ◌∈◌}
 use Rattle.model.specs.Lookup.{readable, is_given}
 use Rattle.model.specs.Wire.{Request, write, mark, revert, read_at, reclaim, give, withdraw}
 use Rattle.model.specs.Step.{Stepped, first_free, shifted, before, put_in, inserted, into_free, standing, do_write, do_mark, branched, do_revert, do_read, reclaimed, do_reclaim, step}

@@ -71,6 +71,7 @@ count_set f (x ∷ ps) (suc p) v h =
 
 pub named_mem : (ps : List ℕ) (i : ℕ) (rs : List Record) (r : Record) → Named ps i rs → r ∈ rs
     → (r.place < length ps) × (i ≤ get_or ps r.place 0)
+named_mem ps i [] r n x'' = elim x'' [ ]
 named_mem ps i (x ∷ rs) r n (inl e) = let l : get_or ps x.place 0 ≡ i = n.1 in rw e (n.0, omega arith)
 named_mem ps i (x ∷ rs) r n (inr m) =
     let ih : (r.place < length ps) × (suc i ≤ get_or ps r.place 0) = named_mem ps (suc i) rs r n.2 m in
@@ -78,6 +79,7 @@ named_mem ps i (x ∷ rs) r n (inr m) =
 
 -- a place is of one record
 pub place_unique : (ps : List ℕ) (i : ℕ) (rs : List Record) (q r : Record) → Named ps i rs → q ∈ rs → r ∈ rs → q.place ≡ r.place → q ≡ r
+place_unique ps i [] q r n x4 _ p = elim x4 [ ]
 place_unique ps i (x ∷ rs) q r n (inl e) (inl d) p = e ∙ sym d
 place_unique ps i (x ∷ rs) q r n (inl e) (inr m) p =
     let k : (r.place < length ps) × (suc i ≤ get_or ps r.place 0) = named_mem ps (suc i) rs r n.2 m in

@@ -33,6 +33,7 @@ other x b n = rw (ne_eqb b.start x n)
 -- a row is found by its start
 starting : (bs : List Branch) (d : Branch) → d ∈ bs → ((b : Branch) → b ∈ bs → b.start ≡ d.start → b ≡ d) → starting_at bs d.start ≡ d
 unfolding starting_at
+starting [] d m h = elim m [ ]
 starting (b ∷ bs) d m h =
     case (eqb b.start d.start)
     (λ e. rw e (h b (inl refl) (eqb-true b.start d.start e)))
@@ -44,6 +45,8 @@ starting (b ∷ bs) d m h =
 
 -- rows start at different moments
 pub same_start : (floor : ℕ) (bs : List Branch) (b d : Branch) → Chain floor bs → b ∈ bs → d ∈ bs → b.start ≡ d.start → b ≡ d
+same_start floor [] b d h _ _ q = elim h [ ]
+same_start floor (c ∷ []) b d h (inr m) (inr n) q = elim m [ ]
 same_start floor (c ∷ bs) b d h (inl e) (inl f) q = e ∙ sym f
 same_start floor (c ∷ bs) b d h (inl e) (inr n) q =
     let z : Below c d = earlier_below floor c bs d h n in
@@ -61,6 +64,8 @@ module _ (floor : ℕ) (d : Branch) where
   κ = but d.start
 
   landing_one : (bs : List Branch) (t : ℕ) → Chain floor bs → d ∈ bs → landing κ bs t ≡ cond (holds d t) d.cut t
+  landing_one [] t h _ = elim h [ ]
+  landing_one (b ∷ []) t h (inr m) = elim m [ ]
   landing_one (b ∷ bs) t h (inl e) =
       let own : κ b ≡ false = rw (eq-eqb b.start d.start (ap (λ (x : Branch). x.start) (sym e))) in
       let stay : (u : ℕ) → landing κ bs u ≡ u =
@@ -120,6 +125,7 @@ absent [] b n = refl
 absent (x ∷ xs) b n = →and (other x b (λ q. n (inl q))) (absent xs b (λ i. n (inr i)))
 
 present : (xs : List ℕ) (b : Branch) → b.start ∈ xs → but_all xs b ≡ false
+present [] b x' = elim x' [ ]
 present (x ∷ xs) b (inl e) = rw (eq-eqb b.start x e)
 present (x ∷ xs) b (inr i) = case (but x b) (λ e. rw (e, present xs b i)) (λ e. rw e)
 

@@ -27,6 +27,7 @@ cut_low : (floor : ℕ) (bs : List Branch) (d : Branch) → Chain floor bs → d
 cut_low floor bs d h m = go bs (falls floor bs h) m
   where
     go : (cs : List Branch) → Falls cs → d ∈ cs → d.cut ≤ d.start
+    go [] f x'' = elim x'' [ ]
     go (c ∷ cs) f (inl e) = rw e f.0
     go (c ∷ cs) f (inr n) = go cs f.1 n
 
@@ -95,6 +96,7 @@ module _ (κ : Branch → Bool) where
   -- a row that passes is left, with some cut
   pub row_left : (bs : List Branch) (d : Branch) → d ∈ bs → κ d ≡ true → (t : ℕ) × (with_cut d t ∈ left_rows bs)
   unfolding left_rows
+  row_left [] d x'' k = elim x'' [ ]
   row_left (b ∷ bs) d (inl e) k = (landing κ bs d.cut, rw (← e, k) (inl refl))
   row_left (b ∷ bs) d (inr m) k =
       let ih : (t : ℕ) × (with_cut d t ∈ left_rows bs) = row_left bs d m k in

@@ -110,6 +110,7 @@ precedes_irrefl r =
 
 hold_present : (r : Record) (rs : List Record) → Asc rs → r ∈ rs → hold (key r) (map key rs) ≡ map key rs
 unfolding hold precedes
+hold_present r [] h x'' = elim x'' [ ]
 hold_present r (x ∷ rs) h (inl e) = rw (e, precedes_irrefl x)
 hold_present r (x ∷ rs) h (inr m) = rw (h.0 r m, hold_present r rs h.1 m)
 

@@ -1,4 +1,6 @@
 // Names: where one stands, which moments are named, and the two requests on them.
+#![tactic(auto)]
+
 ghost use Rattle.std.specs.Prelude.{◌≡◌, ◌+◌, ◌≤◌, eqb, take, drop};
 ghost use Rattle.model.specs.Store.{moments, is_called, any};
 ghost use Rattle.model.specs.Lookup.{readable as can_read};

@@ -1,5 +1,7 @@
 // The batch program, between two descriptors: what is read is one batch for a fresh store; the answers are written, then one byte, the
 // stop number.
+#![tactic(auto)]
+
 ghost use Rattle.std.specs.Prelude.{◌≡◌, ◌*◌, length};
 ghost use Rattle.model.specs.Fresh.{program_store};
 ghost use Rattle.model.specs.Batch.{batch};
@@ -95,7 +97,7 @@ fn serve_fresh(
 }
 
 // What goes out: how many bytes the answers have, and the stop number.
-#[derive(Drop)]
+#[derive(Clone, Copy)]
 struct Reply {
     sent: usize,
     stop: u8,

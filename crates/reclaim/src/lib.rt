@@ -1,4 +1,6 @@
 // Request 5: the records that no readable moment needs are freed, and the branches that need not stay then.
+#![tactic(auto)]
+
 ghost use Rattle.std.specs.Prelude.{◌≡◌, true, ◌≤◌, ◌<◌, length, take};
 ghost use Rattle.model.specs.Store.{moments};
 ghost use Rattle.model.specs.Step.{stays};

@@ -1,4 +1,6 @@
 // Check 3: the records and their places, and how many record rows are read.
+#![tactic(auto)]
+
 ghost use Rattle.std.specs.Prelude.{◌≡◌, true, suc, ◌-◌, ◌<◌};
 ghost use Rattle.model.specs.Soundness.{chained, precedes, used};
 ghost use Rattle.model.specs.RowsRead.{Keeps};
@@ -11,7 +13,7 @@ use holding::Looked;
 use model::Head;
 
 // What the table checks find: 0, or the number of the first that refuses; and how many record rows they read.
-#[derive(Drop)]
+#[derive(Clone, Copy)]
 pub struct Finding {
     pub refusal: u32,
     pub rows: usize,

@@ -1,4 +1,6 @@
 // A byte for each record: 1 where a lookup at one of a list of moments gives it.
+#![tactic(auto)]
+
 ghost use Rattle.std.specs.Prelude.{◌≡◌, true, ltb, ◌+◌, ◌≤◌, ◌<◌, length};
 ghost use Rattle.rows.specs.Rows.{branch_rows_of, record_rows_of, BranchesIn, RecordsIn};
 ghost use Rattle.model.specs.ByNumber.{Line, Ascend};

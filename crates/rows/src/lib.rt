@@ -1,4 +1,6 @@
 // Rows of flat tables, and what a request gives back.
+#![tactic(auto)]
+
 ghost use Rattle.std.specs.Prelude.{◌≡◌, suc, ◌<◌, length, set};
 ghost use Rattle.model.specs.ByNumber.{branch, entry, name_row};
 ghost use Rattle.rows.specs.View.{refused_with, accepted_with};
@@ -34,14 +36,14 @@ pub const ZERO_NAME: Name = Name {
 };
 
 // What a lookup finds.
-#[derive(Drop)]
+#[derive(Clone, Copy)]
 pub enum Found {
     Row(Record),
     Nothing,
 }
 
 // What a request gives back: the head, a refusal or 0, the number, and the record that a read found.
-#[derive(Drop)]
+#[derive(Clone, Copy)]
 pub struct Outcome {
     pub head: Head,
     pub refusal: u32,

@@ -1,4 +1,6 @@
 // A request carried out, whichever it is.
+#![tactic(auto)]
+
 ghost use Rattle.model.specs.ByNumber.{Sound, Whole};
 ghost use Rattle.rows.specs.View.{tables, store_of, Carried};
 ghost use Rattle.wire.specs.Requests.{request_of};

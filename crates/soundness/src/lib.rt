@@ -1,4 +1,6 @@
 // The table checks 1, 2 and 3.
+#![tactic(auto)]
+
 ghost use Rattle.std.specs.Prelude.{◌≡◌, true, ◌&&◌, suc, ◌-◌, ◌≤◌, ◌<◌, take, drop};
 ghost use Rattle.model.specs.Soundness.{chained, in_range, branches_sound, names_sound};
 ghost use Rattle.model.specs.ByNumber.{newest_of};

@@ -1,5 +1,7 @@
 // Where the wanted moments stand in an order in which those whose lookup comes by a moment are a span.
 // Events fall by moment: a wanted moment, or the cut at which a row hangs. A key is an event's moment times 4,294,967,296, plus the row that hangs there or 0.
+#![tactic(auto)]
+
 ghost use Rattle.std.specs.Prelude.{◌≡◌, true, cond, ltb, eqb, suc, ◌+◌, ◌≤◌, ◌<◌, length};
 ghost use Rattle.rows.specs.Rows.{branch_rows_of, BranchesIn};
 ghost use Rattle.model.specs.ByNumber.{Line, held};
@@ -8,7 +10,7 @@ ghost use Rattle.spans.specs.Order.{reaches, above, first_of, Falling, Tree, Edg
 
 // The numbers of a span, from lo to below hi, the row that holds its moment, how many events have it or a later one, and the first and the last of the
 // moments that have the same span.
-#[derive(Drop)]
+#[derive(Clone, Copy)]
 pub struct Span {
     pub lo: usize,
     pub hi: usize,

@@ -1,4 +1,6 @@
 // The requests that store no page: mark, revert and read.
+#![tactic(auto)]
+
 ghost use Rattle.std.specs.Prelude.{◌≡◌, ℕ, length};
 ghost use Rattle.model.specs.Wire.{mark, revert, read_at};
 ghost use Rattle.model.specs.Step.{do_revert};

@@ -1,4 +1,6 @@
 // Head and tables as bytes, four a number, most significant first.
+#![tactic(auto)]
+
 ghost use Rattle.std.specs.Prelude.{◌≡◌, ◌*◌, length};
 ghost use Rattle.rows.specs.Rows.{zeros, branch_width, record_width, name_width};
 ghost use Rattle.rows.specs.View.{number_tables};

@@ -192,7 +192,7 @@ fn save_answers(b: &mut [u8], t: &[u8]) {
 }
 
 // The lengths lent: of the four tables, the slab, the live disk and its marks, the input and the answer area.
-#[derive(Drop)]
+#[derive(Clone, Copy)]
 struct Lengths {
     branches: u32,
     records: u32,

@@ -1,3 +1,5 @@
 // The calls of the store.
+#![tactic(auto)]
+
 pub mod calls;
 mod copies;

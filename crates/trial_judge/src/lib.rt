@@ -1,4 +1,6 @@
 // The store against the reference.
+#![tactic(auto)]
+
 mod checks;
 pub mod judge;
 pub mod live;

@@ -1,3 +1,5 @@
 // The lists of requests, and their bytes.
+#![tactic(auto)]
+
 pub mod encoding;
 pub mod lists;

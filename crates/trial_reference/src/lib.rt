@@ -1,6 +1,8 @@
 // The reference: a complete snapshot of the volume for each moment, the held pairs, now, floor and the names; plain, and slow on purpose.
 // Beside them it keeps the branch rows, the way of each moment to the first branch, the place of each held pair, and the live disk. Readable
 // are the moments from the floor to now and the named ones.
+#![tactic(auto)]
+
 pub mod branches;
 pub mod live;
 pub mod names;

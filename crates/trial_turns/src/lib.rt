@@ -1,5 +1,7 @@
 // The turns of a family of lists: a fresh store, or a batch, or live reads and a copying step, or lists of work orders, with the comparison
 // after them. What the next turn does is one of the numbers.
+#![tactic(auto)]
+
 ghost use Rattle.std.specs.Prelude.{◌≡◌, length, get_or};
 
 use trial_calls::calls;

@@ -1,6 +1,8 @@
 // An operator who sets back weekly into the branch of the week before, for a hundred years, with a reclaim every four weeks.
 // The week k begins at the moment 2k. A page is written in seven weeks of eight; then a mark, another page for a trial, and a revert to 2k,
 // with a work order of its own.
+#![tactic(auto)]
+
 pub mod ways;
 
 ghost use Rattle.std.specs.Prelude.{◌≡◌, length, get_or};

@@ -4,7 +4,7 @@ ghost use Rattle.std.specs.Prelude.{◌≡◌, ◌+◌, ◌*◌, ◌/◌, ◌%�
 use crate::layout::{Numbers, request_at};
 use crate::words::{get, plus, put, put_four};
 
-#[derive(Drop)]
+#[derive(Clone, Copy)]
 pub struct Request {
     pub operation: u32,
     pub address: u32,

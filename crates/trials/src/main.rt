@@ -1,4 +1,6 @@
 // The store against a plain reference in code: every short list of requests over small tables, many long ones, and seeded faults.
+#![tactic(auto)]
+
 mod text;
 
 ghost use Rattle.std.specs.Prelude.{◌≡◌, length};
@@ -16,7 +18,7 @@ use trial_words::layout::{
 use trial_words::words::{get, plus, put, put_four, put_two};
 
 // How lists are made, letters, length, lists.
-#[derive(Drop)]
+#[derive(Clone, Copy)]
 struct Spread {
     mode: u32,
     letters: u32,

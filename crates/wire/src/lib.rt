@@ -1,4 +1,6 @@
 // Requests as bytes: the request reader, and numbers as bytes.
+#![tactic(auto)]
+
 ghost use Rattle.std.specs.Prelude.{◌≡◌, cond, List, eqb, leb, ℕ, ◌+◌, ◌≤◌, ◌<◌, length, take, drop};
 ghost use Rattle.model.specs.Wire.{number, bytes, by_operation, parse};
 ghost use Rattle.wire.specs.Requests.{parsed_of, Spells};
@@ -7,7 +9,7 @@ ghost use Rattle.wire.specs.Front.{in_front};
 use model::Name;
 
 // A request; a revert has a moment and a work order; a write's page stays in the input, behind the seven bytes; a name is read as two numbers.
-#[derive(Drop)]
+#[derive(Clone, Copy)]
 pub enum Request {
     Write(u32),
     Mark,
@@ -19,7 +21,7 @@ pub enum Request {
 }
 
 // What stands at the front of an input: its end, a stop number, or a request with its length in bytes.
-#[derive(Drop)]
+#[derive(Clone, Copy)]
 pub enum Parsed {
     End,
     Stop(u32),

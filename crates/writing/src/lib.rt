@@ -1,4 +1,6 @@
 // The write: a page at (address, now).
+#![tactic(auto)]
+
 ghost use Rattle.std.specs.Prelude.{◌≡◌, map, ◌++◌, ℕ, suc, ◌+◌, ◌*◌, ◌≤◌, ◌<◌, length, get_or, take, drop};
 ghost use Rattle.std.proofs.Math.Option.{none};
 ghost use Rattle.model.specs.Store.{with_page};
@@ -15,7 +17,7 @@ ghost use Rattle.writing.specs.Writable.{Room, Writable, Slot};
 use model::{Head, Record};
 use rows::{Found, Outcome};
 
-#[derive(Drop)]
+#[derive(Clone, Copy)]
 pub enum Free {
     At(usize),
     Full,
