@@ -1,6 +1,6 @@
 # The library for C hosts on x86-64.
 #
-#     make                proves and builds target/staticlib/libkizmoolet.a (some minutes the first time)
+#     make                proves and builds target/staticlib/libkizmoolet.a (a while the first time)
 #     make install        copies headers, archive and pkg-config file to include, lib and lib/pkgconfig below PREFIX
 #     make uninstall      removes these files again
 #
@@ -18,10 +18,12 @@ version := $(shell sed -n 's/^.define KIZMOOLET_VERSION "\(.*\)"$$/\1/p' include
 
 all: $(LIBRARY)
 
-# What is proved has changed where any file of a crate has.
-$(built): crates.txt $(shell find crates -name '*.rt' -o -name '*.antt')
+# What is proved has changed where any file of a crate has; out/ is made by rt.
+$(built): crates.txt $(shell find crates -name out -prune -o '(' -name '*.rt' -o -name '*.antt' ')' -print)
 	@command -v rt >/dev/null || { echo "needs rt to prove and build the library; or LIBRARY=FILE names an archive" >&2; exit 1; }
-	rt staticlib kizmoolet >&2
+	tools/prove kizmoolet_c
+	@mkdir -p $(dir $@)
+	flock target/prove.lock cp crates/kizmoolet_c/out/libkizmoolet_c.a $@.$$$$ && mv $@.$$$$ $@
 
 checked:
 	@case '$(PREFIX)' in *[[:space:]]*) echo "PREFIX has a blank" >&2; exit 1;; /*) ;; *) echo "PREFIX is not a whole path" >&2; exit 1;; esac

@@ -15,7 +15,7 @@ root=$(cd "$here/.." && pwd)
 build=$root/target/bench
 mkdir -p "$build"
 if [ -z "${LIBRARY:-}" ]; then
-    (cd "$root" && rt staticlib kizmoolet) >&2
+    make -s -C "$root" target/staticlib/libkizmoolet.a >&2
     LIBRARY=$root/target/staticlib/libkizmoolet.a
 fi
 

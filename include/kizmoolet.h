@@ -42,10 +42,10 @@
  * unless it is refused, it encodes all rows lent again after the last. The check goes through the counted record rows once, for
  * order and places together, as far as the first row that breaks a rule, and counts the place rows in use. An empty batch costs
  * this too, and a host that sends its requests together pays it once. Of the slab only those pages are touched that a request
- * writes or finds. Measured for an empty batch, over all runs on one machine (docs/BENCHMARKS.md, "A call by itself" and "The
- * table check"): on the largest tables with all rows in use 0.28 to 0.69 ms, and up to 2.8 ms where as many moments as can be are
- * missing between the branches below the floor; on a fresh store of that size 0.20 to 0.24 ms; on small tables 14 to 16 us, about
- * what it takes to clear the 1.1 MB of stack.
+ * writes or finds. Measured for an empty batch on archives of an older kit, as all times here, over all runs on one machine
+ * (docs/BENCHMARKS.md, "A call by itself" and "The table check"): on the largest tables with all rows in use 0.28 to 0.69 ms,
+ * and up to 2.8 ms where as many moments as can be are missing between the branches below the floor; on a fresh store of that
+ * size 0.20 to 0.24 ms; on small tables 14 to 16 us, about what it takes to clear the 1.1 MB of stack.
  *
  * A live read and a copying step decode and check just so, the marks too, and encode nothing. A step looks up and copies each page
  * that it brings to date, and passes over the marks before; a lookup passes up the branches to the one that has the page, or, where
@@ -285,8 +285,8 @@
 #define KIZMOOLET_DATE_BYTES 4u
 #define KIZMOOLET_PAGE_ANSWER_BYTES 265u
 
-/* Enough stack for a call of any of the functions. Measured: kizmoolet_batch 1.40 MB, the others 1.12 MB, whatever the sizes of
-   the tables and the batch. */
+/* Enough stack for a call of any of the functions. Measured on an archive of an older kit: kizmoolet_batch 1.40 MB, the others
+   1.12 MB, whatever the sizes of the tables and the batch. */
 #define KIZMOOLET_STACK_BYTES 1572864u
 
 #ifdef __cplusplus

@@ -1,6 +1,5 @@
 -- A batch under way: what is left of it gives what the whole gives.
 use mathlib.Core.Path.{◌≡◌, refl, ap, sym, subst, ◌∙◌}
-use mathlib.Core.Logic.{⊎_elim}
 use mathlib.Core.List.{List, [], ◌∷◌, ◌++◌, append-nil, append_assoc}
 use mathlib.Core.Option.{none}
 use Prim.Native.Nat.{ℕ, ◌+◌, ◌-◌, ◌≤◌, ◌<◌}
@@ -11,7 +10,7 @@ use lib.ListN.{length, take, drop, length-append, length-drop, drop_of_length-le
 use lib.Seq.{take_all, drop-drop, length-take-le, take_at, drop_at}
 use Rattle.model.specs.Store.{Store}
 use Rattle.model.specs.Soundness.{table_check}
-use Rattle.model.specs.Wire.{Request, Parsed, end, stop, one, parse, Answer, page_bytes, answer_bytes}
+use Rattle.model.specs.Wire.{Request, end, stop, one, parse, Answer, page_bytes, answer_bytes}
 use Rattle.model.specs.Step.{step}
 use Rattle.model.specs.Batch.{Answered, Run, ended, and_then, batch}
 use Rattle.model.proofs.Invariant.{sound_check}
@@ -19,9 +18,6 @@ use Rattle.model.specs.ByNumber.{Sound, Whole}
 use Rattle.model.proofs.Parsing.{Reads, parse_reads}
 use Rattle.model.proofs.Running.{batch_end, batch_stop, batch_full, batch_next}
 use Rattle.model.proofs.RoundTrip.{length_answer}
-use types.Run.{OneOf}
-use denote.Enum.Declared.{tag_of}
-use Rattle.wire.specs.contracts.Parsed.{the_type}
 use Rattle.wire.specs.declared.Parsed as wire
 use Rattle.wire.specs.declared.Request as wire-request
 use Rattle.wire.specs.declared.Parsed.TheVariants.{End, Stop, One}
@@ -180,11 +176,11 @@ module _ (input : List ℕ) (at : ℕ) (p : wire.Parsed) (told : parsed_of (take
   pub read_one : (q : wire-request.Request) (n : ℕ) → p ≡ One q n → parse (drop at input) ≡ one (request_of part q) n
   read_one q n d = ap parse (sym (part_all input at)) ∙ (sym told ∙ ap (parsed_of part) d)
 
-  pub read_over : {s : Store} {a₀ : List ℕ} {u : Store} {a : List ℕ} {log : List Answered} {count out : ℕ} → Left s input a₀ u a log count at out → OneOf (0 ∷ 1 ∷ []) (tag_of the_type p)
+  pub read_over : {s : Store} {a₀ : List ℕ} {u : Store} {a : List ℕ} {log : List Answered} {count out : ℕ} → Left s input a₀ u a log count at out → ((q : wire-request.Request) (n : ℕ) → p ≡ One q n → ⊥)
       → Over s input a₀ u a log (stop_of p) count at out
   read_over {s = s} {a₀ = a₀} {u = u} {a = a} {log = log} {count = count} {out = out} l o = go p o (ap parse (sym (part_all input at)) ∙ sym told)
     where
-      go : (r : wire.Parsed) → OneOf (0 ∷ 1 ∷ []) (tag_of the_type r) → parse (drop at input) ≡ parsed_of part r → Over s input a₀ u a log (stop_of r) count at out
+      go : (r : wire.Parsed) → ((q : wire-request.Request) (n : ℕ) → r ≡ One q n → ⊥) → parse (drop at input) ≡ parsed_of part r → Over s input a₀ u a log (stop_of r) count at out
       go End k e = left_end l e
       go (Stop n) k e = left_stop l n e
-      go (One q n) k e = absurd (⊎_elim (λ (z : ◌≡◌ {A = ℕ} 2 0). omega arith) (λ (z : ◌≡◌ {A = ℕ} 2 1). omega arith) k)
+      go (One q n) k e = absurd (k q n refl)

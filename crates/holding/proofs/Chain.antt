@@ -1,5 +1,5 @@
 -- Chained branch rows by their number, oldest first.
-use mathlib.Core.Path.{◌≡◌, ap, sym, ◌∙◌}
+use mathlib.Core.Path.{◌≡◌, refl, ap, sym, subst, ◌∙◌}
 use mathlib.Core.List.{List, [], ◌∷◌}
 use mathlib.Core.Bool.{true, false≢true}
 use Prim.Native.Nat.{ℕ, zero, suc, ◌+◌, ◌-◌, ◌≤◌, ◌<◌}
@@ -122,9 +122,13 @@ chain_unbroken floor [] h = h
 chain_unbroken floor (b ∷ []) h = h
 chain_unbroken floor (b ∷ c ∷ bs) h =
     case (eqb b.start (c.end + 1))
-    (λ e. rw e
+    (λ e.
+    let u : unbroken (b ∷ c ∷ bs) ≡ unbroken (c ∷ bs) = rw e refl in
+    subst (λ (x : ℕ). Chain x (b ∷ c ∷ bs)) (sym u)
     (record { ordered = h.0.ordered; after = h.0.after; follows = λ _. eqb-true _ _ e; parent = h.0.parent; order = h.0.order }, chain_unbroken floor (c ∷ bs) h.1))
-    (λ e. rw e
+    (λ e.
+    let u : unbroken (b ∷ c ∷ bs) ≡ b.start = rw e refl in
+    subst (λ (x : ℕ). Chain x (b ∷ c ∷ bs)) (sym u)
     (record { ordered = h.0.ordered; after = h.0.after; follows = λ m. absurd (omega arith); parent = h.0.parent; order = h.0.order }, chain_up (unbroken (c ∷ bs)) b.start (c ∷ bs) (omega (arith, unbroken_most floor c bs h.1, chain_ordered floor c bs h.1, h.0)) (chain_unbroken floor (c ∷ bs) h.1)))
 
 pub chained_unbroken : (floor : ℕ) (bs : List Branch) → chained floor bs ≡ true → chained (unbroken bs) bs ≡ true

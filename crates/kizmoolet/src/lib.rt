@@ -14,8 +14,7 @@ ghost use Rattle.kizmoolet.specs.Told.{Tells};
 use live::Spot;
 
 // Makes a fresh store of `size` pages; 1, and nothing written, where the size or a length is not allowed.
-#[unsafe(no_mangle)]
-pub extern "C" fn kizmoolet_fresh(
+pub fn kizmoolet_fresh(
     size: u32,
     head: &mut [u8],
     branches: &mut [u8],
@@ -41,8 +40,7 @@ pub extern "C" fn kizmoolet_fresh(
 
 // Carries out a batch; the result is the stop number. Always written: the requests answered, the bytes of those requests that were
 // taken, the bytes of their answers that were sent, and how many record rows the table checks read.
-#[unsafe(no_mangle)]
-pub extern "C" fn kizmoolet_batch(
+pub fn kizmoolet_batch(
     head: &mut [u8],
     branches: &mut [u8],
     records: &mut [u8],
@@ -87,8 +85,7 @@ pub extern "C" fn kizmoolet_batch(
 
 // A live read: where the page of an address lies, as it is at now; the result is the refusal, or 0. Always written: the area that the
 // page is a part of (0 no page, 1 the live disk, 2 the slab), and the offset of its 256 bytes there.
-#[unsafe(no_mangle)]
-pub extern "C" fn kizmoolet_live_read(
+pub fn kizmoolet_live_read(
     head: &[u8],
     branches: &[u8],
     records: &[u8],
@@ -135,8 +132,7 @@ pub extern "C" fn kizmoolet_live_read(
 }
 
 // A copying step with this budget; the result is the refusal, or 0. Always written: how many pages it copied.
-#[unsafe(no_mangle)]
-pub extern "C" fn kizmoolet_copy_step(
+pub fn kizmoolet_copy_step(
     head: &[u8],
     branches: &[u8],
     records: &[u8],
@@ -169,8 +165,7 @@ pub extern "C" fn kizmoolet_copy_step(
 }
 
 // The work orders of a moment, listed; the result is the refusal, or 0. Always written: how many work orders are listed.
-#[unsafe(no_mangle)]
-pub extern "C" fn kizmoolet_work_orders(
+pub fn kizmoolet_work_orders(
     head: &[u8],
     branches: &[u8],
     records: &[u8],

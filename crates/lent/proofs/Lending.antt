@@ -19,10 +19,10 @@ use Rattle.model.specs.Fresh.{fresh_check, made_fresh}
 use Rattle.model.proofs.Base.{case, and→}
 use Rattle.model.proofs.RowsRead.{rows_tell}
 use Rattle.live.specs.Live.{LiveDisk, LiveRun, live_check, live_batch}
-use Rattle.rows.specs.Rows.{branch_width, branch_rows_of, record_rows_of, name_rows_of, BranchesIn}
+use Rattle.rows.specs.Rows.{flat, branch_width, branch_fields, branch_rows_of, record_rows_of, name_rows_of, BranchesIn}
 use Rattle.rows.specs.View.{Tables, tables, store_of, laid}
 use Rattle.rows.proofs.Laws.{branch_kind, record_kind, name_kind, relaid_own}
-use Rattle.rows.proofs.Relaid.{front_rows}
+use Rattle.rows.proofs.Relaid.{front_rows, first_rows}
 use Rattle.soundness.specs.Check.{whole_rows, whole_tables, allowed_in, read_of}
 use Rattle.soundness.proofs.Checked.{allowed_rows}
 use Rattle.batch.specs.declared.Done.{Done}
@@ -40,6 +40,10 @@ not_made s size e = rw e
 -- what is lent, laid over itself
 laid_itself : (head : Head) (l : Lent) → l ≡ laid_over (lent_store head l) l
 laid_itself head l i = record { branches = l.branches; records = sym (relaid_own record_kind l.records) i; places = l.places; names = sym (relaid_own name_kind l.names) i; slab = l.slab }
+
+-- rows loaded into a table are its first
+pub loaded_front : (rows : List Branch) (t u : List ℕ) → u ≡ flat branch_fields rows ++ drop (length rows * branch_width) t → take (length rows) (branch_rows_of u) ≡ rows
+loaded_front rows t u e = rw e (first_rows branch_kind rows (drop (length rows * branch_width) t))
 
 -- n rows of a flat table, and what a call on their numbers leaves in the table
 module _ (n : ℕ) (t : List ℕ) (fits : BranchesIn n t) where

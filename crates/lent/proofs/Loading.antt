@@ -1,6 +1,6 @@
 -- Rows loaded into a flat table and stored out of it one after the other, over any kind of row.
 --     loaded, stored               the table, or the rows, once i rows are copied
---     load_step, store_step        what a turn makes of it; loaded_all, stored_all where all are copied
+--     load_step, store_step        what a turn makes of it
 use mathlib.Core.Path.{◌≡◌, sym, ap, ◌∙◌}
 use mathlib.Core.List.{List, [], ◌∷◌, ◌++◌, append-nil}
 use Prim.Native.Nat.{ℕ, suc, ◌+◌, ◌*◌, ◌≤◌, ◌<◌}
@@ -8,7 +8,7 @@ use native.Mathlib.Nat.{suc-mul, mul-le-mul_right, mul-mod_left, le-div_iff_mul-
 use native.Mathlib.Numerals.{add-one}
 use native.Mathlib.Omega.{arith}
 use lib.ListN.{length, get_or, set, take, drop, length-append, length-drop}
-use lib.Seq.{sets, sets-eq, length-take-le, take-suc, take_at, drop-cons, drop-append-add, drop-drop, set_at, append_snoc, take-length, drop-length}
+use lib.Seq.{sets, sets-eq, length-take-le, take-suc, take_at, drop-cons, drop-append-add, drop-drop, set_at, append_snoc}
 use Rattle.rows.specs.Rows.{rows_by, flat, relaid, RowSet}
 use Rattle.rows.proofs.Laws.{Kind, rows_length, row_put}
 use Rattle.rows.proofs.Relaid.{flat_append, length_flat, relaid_whole, first_rows}
@@ -28,11 +28,16 @@ module _ {A : Type 0} (K : Kind A) where
   abbrev pub loaded : List A → List ℕ → ℕ → List ℕ
   loaded xs t i = flat K.fields (take i xs) ++ drop (i * w) t
 
+  -- no row is loaded yet
+  pub loaded_start : (xs : List A) (t : List ℕ) → t ≡ loaded xs t 0
+  unfolding flat
+  loaded_start xs t = let e : 0 * w ≡ 0 = omega arith in rw e
+
   module _ (xs : List A) (t : List ℕ) (fits : length xs * w ≤ length t) where
     front : (i : ℕ) → i ≤ length xs → length (flat K.fields (take i xs)) ≡ i * w
     front i h = length_flat K (take i xs) ∙ rw (length-take-le i xs h)
 
-    pub length_loaded : (i : ℕ) → i ≤ length xs → length (loaded xs t i) ≡ length t
+    length_loaded : (i : ℕ) → i ≤ length xs → length (loaded xs t i) ≡ length t
     length_loaded i h = omega (arith, length-append (flat K.fields (take i xs)) (drop (i * w) t), front i h, length-drop (i * w) t, mul-le-mul_right w h)
 
     -- row i set in it
@@ -53,23 +58,12 @@ module _ {A : Type 0} (K : Kind A) where
         ap (λ (k : ℕ). flat K.fields (take k xs)) (add-one i) ∙ rw (take-suc xs i d h, flat_append K.fields (take i xs) (x ∷ []), flat_one x) in
         e ∙ sets-eq (K.fields x) now (i * w) (omega arith) ∙ rw (take_at p (drop (i * w) t) (i * w) lp, rest, more)
 
-    -- all rows loaded
-    pub loaded_all : (i : ℕ) → i ≡ length xs → loaded xs t i ≡ flat K.fields xs ++ drop (length xs * w) t
-    loaded_all i e = rw (e, take-length xs)
-
-    -- a row inside the table
-    pub row_within : (i : ℕ) → i < length xs → suc i * w ≤ length t
-    row_within i h = omega (arith, mul-le-mul_right w h)
-
     -- the rows once i are stored out of the table
-    abbrev pub stored : ℕ → List A
+    abbrev stored : ℕ → List A
     stored i = take i (rows t) ++ drop i xs
 
     there : (i : ℕ) → i ≤ length xs → i ≤ length (rows t)
     there i h = rw (rows_length K t) ((le-div_iff_mul-le K.wide).1 (omega (arith, mul-le-mul_right w h)))
-
-    pub length_stored : (i : ℕ) → i ≤ length xs → length (stored i) ≡ length xs
-    length_stored i h = omega (arith, length-append (take i (rows t)) (drop i xs), length-take-le i (rows t) (there i h), length-drop i xs)
 
     pub store_step : (d : A) (i : ℕ) → i < length xs → set (stored i) i (get_or (rows t) i d) ≡ stored (i + 1)
     store_step d i h =
@@ -80,9 +74,6 @@ module _ {A : Type 0} (K : Kind A) where
         ∙ sym (append_snoc (take i (rows t)) x (drop (suc i) xs))
         ∙ ap (λ (r : List A). r ++ drop (suc i) xs) (sym (take-suc (rows t) i d l))
         ∙ ap (λ (k : ℕ). take k (rows t) ++ drop k xs) (sym (add-one i))
-
-    pub stored_all : (i : ℕ) → i ≡ length xs → stored i ≡ take (length xs) (rows t)
-    stored_all i e = rw (e, drop-length xs) (append-nil (take (length xs) (rows t)))
 
   -- n rows laid over a table of n rows, and what follows it: the first n rows are those
   pub relaid_first : (n : ℕ) (t u rest : List ℕ) (xs : List A) → length t ≡ n * w → length u ≡ length t → u ≡ relaid w K.fields xs t → take n (rows (u ++ rest)) ≡ xs

@@ -15,7 +15,7 @@ use Rattle.live.specs.Live.{LiveDisk, disk_of, marks_small}
 use Rattle.live.specs.Fit.{Sized}
 use Rattle.live.proofs.LiveDemand.{sized_run}
 use Rattle.rows.specs.Rows.{zeros}
-use Rattle.rows.specs.View.{Tables, tables, store_of}
+use Rattle.rows.specs.View.{Tables, store_of}
 use Rattle.rows.proofs.Laws.{branch_count, record_count, length_zeros}
 use Rattle.rows.proofs.View.{SameLengths, laid_on}
 use Rattle.soundness.specs.Check.{whole_tables, allowed_in}

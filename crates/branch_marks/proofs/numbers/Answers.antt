@@ -1,0 +1,6 @@
+use Prim.Native.Nat.{ℕ}
+use lib.ListN.{length-replicate, get_or-replicate}
+use Rattle.branch_marks.proofs.numbers.Goals as goal
+
+pub returns : goal.returns
+returns c = record { long = length-replicate {A = ℕ} 4096 0; zero = λ k l. get_or-replicate {A = ℕ} 4096 k 0 0 l }

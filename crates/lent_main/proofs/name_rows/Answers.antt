@@ -1,0 +1,7 @@
+use Rattle.std.proofs.Common.{refl}
+use Rattle.rows.specs.Rows.{zeros}
+use Rattle.lent_main.proofs.name_rows.Goals as goal
+
+pub returns : goal.returns
+unfolding zeros
+returns c = refl

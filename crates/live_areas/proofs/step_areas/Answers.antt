@@ -1,0 +1,61 @@
+use mathlib.Core.Path.{sym}
+use Prim.Native.Nat.{◌/◌, ◌≤◌}
+use lib.ListN.{length}
+use lib.Seq.{length-take-le}
+use Rattle.tables.proofs.Laws.{Lengths, lengths→}
+use Rattle.live.specs.Live.{disk_of}
+use Rattle.areas.specs.Lent.{Lent, lent}
+use Rattle.areas.proofs.Areas.{branches_fit, records_fit, places_fit, room_of}
+use Rattle.live_areas.proofs.Laws.{step_is, copies_as}
+use Rattle.live_areas.proofs.step_areas.Goals as goal
+
+pub get_head-first-requires : goal.get_head-first-requires
+get_head-first-requires c =
+    let sizes : Lengths (length c.args.head.now) (length c.args.branches.now) (length c.args.records.now) (length c.args.places.now) (length c.args.names.now) = lengths→ c.requires in
+    (sizes).head
+
+pub slice_bounds-bt-end : goal.slice_bounds-bt-end
+slice_bounds-bt-end c =
+    let sizes : Lengths (length c.args.head.now) (length c.args.branches.now) (length c.args.records.now) (length c.args.places.now) (length c.args.names.now) = lengths→ c.requires in
+    let branches-have : length c.args.branches.now / 4 ≤ length c.branch_room-bt.result = branches_fit (sizes) _ c.branch_room-bt.ensures in
+    branches-have
+
+pub slice_bounds-step_tables-end : goal.slice_bounds-step_tables-end
+slice_bounds-step_tables-end c =
+    let sizes : Lengths (length c.args.head.now) (length c.args.branches.now) (length c.args.records.now) (length c.args.places.now) (length c.args.names.now) = lengths→ c.requires in
+    let branches-have : length c.args.branches.now / 4 ≤ length c.branch_room-bt.result = branches_fit (sizes) _ c.branch_room-bt.ensures in
+    sym (length-take-le _ c.branch_room-bt.result (branches-have))
+
+pub slice_bounds-rt-end : goal.slice_bounds-rt-end
+slice_bounds-rt-end c =
+    let sizes : Lengths (length c.args.head.now) (length c.args.branches.now) (length c.args.records.now) (length c.args.places.now) (length c.args.names.now) = lengths→ c.requires in
+    let records-have : length c.args.records.now / 4 ≤ length c.record_room-rt.result = records_fit (sizes) _ c.record_room-rt.ensures in
+    records-have
+
+pub slice_bounds-step_tables-end-2 : goal.slice_bounds-step_tables-end-2
+slice_bounds-step_tables-end-2 c =
+    let sizes : Lengths (length c.args.head.now) (length c.args.branches.now) (length c.args.records.now) (length c.args.places.now) (length c.args.names.now) = lengths→ c.requires in
+    let records-have : length c.args.records.now / 4 ≤ length c.record_room-rt.result = records_fit (sizes) _ c.record_room-rt.ensures in
+    sym (length-take-le _ c.record_room-rt.result (records-have))
+
+pub slice_bounds-pt-end : goal.slice_bounds-pt-end
+slice_bounds-pt-end c =
+    let sizes : Lengths (length c.args.head.now) (length c.args.branches.now) (length c.args.records.now) (length c.args.places.now) (length c.args.names.now) = lengths→ c.requires in
+    let places-have : length c.args.places.now / 4 ≤ length c.place_room-pt.result = places_fit (sizes) _ c.place_room-pt.ensures in
+    places-have
+
+pub slice_bounds-step_tables-end-3 : goal.slice_bounds-step_tables-end-3
+slice_bounds-step_tables-end-3 c =
+    let sizes : Lengths (length c.args.head.now) (length c.args.branches.now) (length c.args.records.now) (length c.args.places.now) (length c.args.names.now) = lengths→ c.requires in
+    let places-have : length c.args.places.now / 4 ≤ length c.place_room-pt.result = places_fit (sizes) _ c.place_room-pt.ensures in
+    sym (length-take-le _ c.place_room-pt.result (places-have))
+
+pub step_tables-requires : goal.step_tables-requires
+step_tables-requires c =
+    let sizes : Lengths (length c.args.head.now) (length c.args.branches.now) (length c.args.records.now) (length c.args.places.now) (length c.args.names.now) = lengths→ c.requires in
+    room_of c.args.branches.now c.args.records.now c.args.places.now c.args.names.now _ _ _ _ (sizes) c.branch_room-bt.ensures c.record_room-rt.ensures c.place_room-pt.ensures c.name_room-nt.ensures
+
+pub returns : goal.returns
+returns c =
+    let areas : Lent = lent c.args.head.now c.args.branches.now c.args.records.now c.args.places.now c.args.names.now c.args.slab.now in
+    copies_as (step_is (areas) (disk_of c.args.disk.now c.args.marks.now) c.requires c.get_head-first.ensures c.args.budget) c.step_tables.ensures
