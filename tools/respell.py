@@ -2,7 +2,7 @@
 """Spells this repository's own definitions and lemmas in snake case, as the toolchain's library does: `headBytes` and `head-bytes` become
 `head_bytes`. It goes by the texts of specs/ and proofs/, and is run once, at the top, after the port to the newer form.
 
-usage: respell.py [--check]
+usage: respell.py [--check] [--table]     in the repository as it was before docs/PORT.md, after the kit's port.py
 
 What turns: names with a capital inside (definitions, fields, constructors, variables), and names with a dash that a file of specs/, or a file right
 in proofs/, declares. A function's own proof files keep the names that they declare, since these are the goals' names. Types, modules, the source's
@@ -50,6 +50,8 @@ def code(text, kind):
 
 
 def main():
+    if os.path.exists("docs/PORT.md"):
+        sys.exit("respell: the names are in snake case already, and a second run would turn some of them twice")
     check = "--check" in sys.argv
     texts = {p: open(p, encoding="utf-8").read() for p in files()}
     words = {}

@@ -10,7 +10,7 @@ use Rattle.model.specs.Batch.{Run, batch}
 use Rattle.model.proofs.Base.{absurd_test}
 use Rattle.live.specs.Live.{LiveDisk, live_check, played, LiveRun, live_batch}
 use Rattle.live.proofs.LiveDemand.{batch_is, live_refused}
-use Rattle.rows.specs.View.{Tables, tables, store_of}
+use Rattle.rows.specs.View.{Tables, store_of}
 use Rattle.soundness.specs.Check.{read_of}
 use Rattle.disk_check.specs.Check.{live_check_of, live_finding_of}
 use Rattle.disk_check.proofs.Checked.{whole_check}

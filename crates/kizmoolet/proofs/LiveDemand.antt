@@ -14,7 +14,6 @@ use Rattle.live.specs.declared.Spot.{Spot}
 use Rattle.live.specs.declared.Spot.TheVariants.{Nowhere}
 use Rattle.live.specs.declared.Located.{Located}
 use Rattle.live.specs.declared.Copied.{Copied}
-use Rattle.live.specs.Live as live
 use Rattle.live.specs.Live.{LiveDisk, Live, disk_check, live_check, played, LiveRun, live_batch, live_read, part_at, handed, stale, CopyLeft, copy_step}
 use Rattle.live.specs.LiveDemand as model
 use Rattle.live.specs.LiveDemand.{Call, after_call, after_calls, AllStale, read_now, reverts_in, Advances}

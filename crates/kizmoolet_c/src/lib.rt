@@ -46,7 +46,8 @@ pub extern "C" fn kizmoolet_batch(
     ensures { BatchDone (lent head.old branches.old records.old places.old names.old slab.old) (disk_of disk.old marks.old) batch.now answers.old (batch_left result answered.new taken.new sent.new rows.new (lent head.new branches.new records.new places.new names.new slab.new) (disk_of disk.new marks.new) answers.new) }
 {
     kizmoolet::kizmoolet_batch(
-        head, branches, records, places, names, slab, disk, marks, batch, answers, answered, taken, sent, rows,
+        head, branches, records, places, names, slab, disk, marks, batch, answers, answered, taken,
+        sent, rows,
     )
 }
 

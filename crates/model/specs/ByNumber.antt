@@ -155,7 +155,7 @@ pub record SoundNames (now : ℕ) (bs : List Branch) (ns : List Name) : Type 0 w
   pub apart : Apart ns
   pub fit : (n : Name) → n ∈ ns → NameFits now bs n
 
--- a store that passes the table checks, with a now of 32 bits (proofs/Checked, check-sound; back: proofs/Invariant, sound_check)
+-- a store that passes the table checks, with a now of 32 bits (proofs/Checked, check_sound; back: proofs/Invariant, sound_check)
 pub record Sound (s : Store) : Type 0 where
   pub sizes : Sizes s
   pub rows : SoundRows s.head.floor s.head.now (newest s)

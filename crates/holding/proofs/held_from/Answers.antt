@@ -35,8 +35,7 @@ pub returns : goal.returns
 returns c =
     let rows : List Branch = branch_rows_of c.args.bt.now in
     let room : c.args.n ≤ length rows = omega (arith, branch_count c.args.bt.now, c.requires.branches_in) in
-    let stairs : Stairs rows c.args.n = passes_stairs c.args.floor rows c.args.n room c.requires.n_value in
-    (
+    let stairs : Stairs rows c.args.n = passes_stairs c.args.floor rows c.args.n room c.requires.n_value in (
       rw c.branch_at-b.ensures (held_first (rows) c.args.n c.args.t (stairs) (room) c.row_from-row.result c.row_from-row.ensures),
       c.row_from-row.ensures.inside,
     )

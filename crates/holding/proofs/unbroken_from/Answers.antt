@@ -35,7 +35,7 @@ returns-then-b-c c =
     let n : ℕ = c.args.head.branches in
     let some : 0 < n = passes_some c.args.head.floor rows n c.requires.branches_value in
     let room : n ≤ length rows = omega (arith, branch_count c.args.bt.now, c.requires.branches_in) in
-    let whole : ( unbroken (newest_of (rows) (suc c.loop-i.i)) ≡ unbroken (newest_of (rows) (n))) = let e : suc (n - 1) ≡ n = omega (arith, some) in
+    let whole : (unbroken (newest_of (rows) (suc c.loop-i.i)) ≡ unbroken (newest_of (rows) (n))) = let e : suc (n - 1) ≡ n = omega (arith, some) in
     rw e at c.loop-i.invariant.1 in
     let inside : c.loop-i.i < length (rows) = omega (arith, some, room, c.loop-i.invariant.0) in
     let e = same c.branch_at-b.ensures in
@@ -61,7 +61,7 @@ returns c =
     let n : ℕ = c.args.head.branches in
     let some : 0 < n = passes_some c.args.head.floor rows n c.requires.branches_value in
     let room : n ≤ length rows = omega (arith, branch_count c.args.bt.now, c.requires.branches_in) in
-    let whole : ( unbroken (newest_of (rows) (suc c.loop-i.i)) ≡ unbroken (newest_of (rows) (n))) = let e : suc (n - 1) ≡ n = omega (arith, some) in
+    let whole : (unbroken (newest_of (rows) (suc c.loop-i.i)) ≡ unbroken (newest_of (rows) (n))) = let e : suc (n - 1) ≡ n = omega (arith, some) in
     rw e at c.loop-i.invariant.1 in
     let e : suc c.loop-i.i ≡ 1 = omega arith in
     let z : unbroken (newest_of (rows) 1) ≡ unbroken (newest_of (rows) (n)) = rw e at (whole) in

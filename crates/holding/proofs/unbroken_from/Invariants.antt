@@ -2,7 +2,6 @@ use mathlib.Core.Path.{◌≡◌}
 use Prim.Native.Nat.{suc, ◌≤◌}
 use Rattle.model.specs.ByNumber.{newest_of}
 use Rattle.rows.specs.Rows.{branch_rows_of}
-use Rattle.holding.proofs.Chain.{same}
 use Rattle.holding.specs.Search.{unbroken}
 use Rattle.holding.proofs.unbroken_from.Given as goal
 

@@ -11,8 +11,7 @@ use Rattle.spans.proofs.number_rows.Goals as goal
 
 pub loop-k-init : goal.loop-k-init
 loop-k-init c =
-    let rows : c.args.n ≤ length (branch_rows_of c.args.bt.now) = omega (arith, branch_count c.args.bt.now, c.requires.branches_in) in
-    (
+    let rows : c.args.n ≤ length (branch_rows_of c.args.bt.now) = omega (arith, branch_count c.args.bt.now, c.requires.branches_in) in (
       omega arith,
       firsts_start c.requires.line (rows) c.requires.tree c.requires.sums c.requires.branches_in.1 (get_or-set_same c.args.firsts.now 0 0 0 (omega (arith, c.requires.branches_in))),
       rest_start,
