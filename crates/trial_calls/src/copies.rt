@@ -29,11 +29,7 @@ pub(crate) fn copy(from: &[u32], to: &mut [u32]) {
 
 pub(crate) fn copy_bytes(from: &[u8], to: &mut [u8]) {
     let n = least(from.len(), to.len());
-    let mut i: usize = 0;
-    while i < n {
-        to[i] = from[i];
-        i += 1;
-    }
+    to[..n].copy_from_slice(&from[..n]);
 }
 
 fn one_where(yes: bool) -> u32 {
@@ -54,6 +50,9 @@ pub(crate) fn differing(s: &[u32], t: &[u32]) -> u32 {
 
 pub(crate) fn differing_bytes(s: &[u8], t: &[u8]) -> u32 {
     let n = least(s.len(), t.len());
+    if s[..n] == t[..n] {
+        return 0;
+    }
     let mut count: u32 = 0;
     let mut i: usize = 0;
     while i < n {
