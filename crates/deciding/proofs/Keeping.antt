@@ -2,7 +2,7 @@
 use mathlib.Core.Path.{◌≡◌, refl, ap, sym, ◌∙◌}
 use mathlib.Core.Logic.{◌⊎◌, inl, inr}
 use mathlib.Core.List.{List, [], ◌∷◌, ◌++◌, map, append_assoc, append-nil}
-use mathlib.Core.Bool.{Bool, true, false, ◌||◌}
+use mathlib.Core.Bool.{Bool, true, false, ◌&&◌, ◌||◌}
 use Prim.Native.Nat.{ℕ, zero, suc, ◌+◌, ◌-◌, ◌≤◌, ◌<◌}
 use native.Mathlib.Omega.{arith}
 use native.Mathlib.Nat.{add-zero, add-suc}
@@ -11,6 +11,10 @@ use lib.Dec.{leb, ltb, eqb}
 use lib.ListN.{length, get_or, set, take, length-set, length-map}
 use lib.Seq.{get_or-set_other, take-suc-set, length-take-le}
 use borrow.Author.Tests.{leb-true, ltb-true, ltb-false, eqb-true, eqb-false, le-leb, lt-leb, lt-ltb, le-ltb}
+use Rattle.std.specs.List.{list_all, range_with_len}
+use Rattle.std.proofs.lemmas.List.{map-id}
+use Rattle.std.proofs.lemmas.List.FromFn.{map-range_with_len_more}
+use Rattle.std.proofs.lemmas.List.Folds.{list_all-append}
 use Rattle.model.specs.declared.Branch.{Branch}
 use Rattle.model.specs.declared.Record.{Record}
 use Rattle.model.specs.declared.Name.{Name}
@@ -213,19 +217,21 @@ none_older→ rs m (suc n) e k l =
     (λ d. rw (eqb-true k n d) (leb-true m (entry rs n).moment both.0))
     (λ d. let ne : k ≡ n → ⊥ = eqb-false k n d in none_older→ rs m n both.1 k (omega arith))
 
-pub none_older_start : (rs : List Record) (m : ℕ) → none_older rs m 0 ≡ true
-unfolding none_older
-none_older_start rs m = refl
+and_last : (a b : Bool) → (a && (b && true)) ≡ (b && a)
+and_last true true = refl
+and_last true false = refl
+and_last false true = refl
+and_last false false = refl
 
-pub none_older_step : (rs : List Record) (m k : ℕ) → none_older rs m k ≡ true → m ≤ (entry rs k).moment → none_older rs m (k + 1) ≡ true
+-- the same, from the first record on
+pub all_young : (rs : List Record) (m n : ℕ) → list_all (λ k. leb m (entry rs k).moment) (range_with_len 0 n) ≡ none_older rs m n
 unfolding none_older
-none_older_step rs m k e l = let s : k + 1 ≡ suc k = omega arith in rw (s, le-leb m (entry rs k).moment l) e
-
-pub some_older : (rs : List Record) (m n k : ℕ) → k < n → (entry rs k).moment < m → none_older rs m n ≡ false
-some_older rs m n k l a =
-    case (none_older rs m n)
-    (λ d. absurd (omega (arith, none_older→ rs m n d k l)))
-    (λ d. d)
+all_young rs m zero = refl
+all_young rs m (suc n) =
+    let young = λ (k : ℕ). leb m (entry rs k).moment in
+    let more : range_with_len 0 (n + 1) ≡ range_with_len 0 n ++ (n ∷ []) = simp map-id at (map-range_with_len_more (λ (k : ℕ). k) 0 n n (omega arith)) in
+    ap (λ (k : ℕ). list_all young (range_with_len 0 k)) (sym (add-one n))
+    ∙ (ap (list_all young) more ∙ (list_all-append young (range_with_len 0 n) (n ∷ []) ∙ rw (all_young rs m n) (and_last (none_older rs m n) (young n))))
 
 pub kept_young : (bs : List Branch) (n : ℕ) (rs : List Record) (m : ℕ) (named : List ℕ) {nr : ℕ} {old new : List ℕ} → none_older rs m nr ≡ true
     → Filled (young_too rs m old) nr old new → Filled (kept_record bs n rs nr m named) nr old new

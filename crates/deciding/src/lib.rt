@@ -21,9 +21,7 @@ pub fn starts(bt: &[u32], n: usize, floor: u32, table: &mut [u32]) -> usize
 {
     table[0] = floor;
     let mut c: usize = 1;
-    let mut i = n;
-    while 0 < i {
-        i -= 1;
+    for i in (0..n).rev() {
         let b = rows::branch_at(bt, i);
         if b.start <= floor {
             continue;
@@ -39,11 +37,9 @@ pub fn named(nt: &[u32], k: usize, c: usize, table: &mut [u32]) -> usize
     requires { NamesIn k nt.now × (c + k ≤ length table.old) }
     ensures { Behind (moments (take k (name_rows_of nt.now))) c result table.old table.new }
 {
-    let mut j: usize = 0;
-    while j < k {
+    for j in 0..k {
         let n = rows::name_at(nt, j);
         table[c + j] = n.moment;
-        j += 1;
     }
     c + k
 }
@@ -53,15 +49,7 @@ pub fn none_older(rt: &[u32], nr: usize, floor: u32) -> bool
     requires { RecordsIn nr rt.now }
     ensures { result ≡ none_older (record_rows_of rt.now) floor nr }
 {
-    let mut k: usize = 0;
-    while k < nr {
-        let r = rows::record_at(rt, k);
-        if r.moment < floor {
-            return false;
-        }
-        k += 1;
-    }
-    true
+    (0..nr).all(|k| floor <= rows::record_at(rt, k).moment)
 }
 
 // Records that are not older than the floor are kept.
@@ -69,14 +57,9 @@ pub fn keep_young(rt: &[u32], nr: usize, floor: u32, marks: &mut [u8])
     requires { RecordsIn nr rt.now × (nr ≤ length marks.old) }
     ensures { Filled (young_too (record_rows_of rt.now) floor marks.old) nr marks.old marks.new }
 {
-    let mut k: usize = 0;
-    while k < nr {
-        let r = rows::record_at(rt, k);
-        if r.moment < floor {
-            k += 1;
-            continue;
+    for k in 0..nr {
+        if floor <= rows::record_at(rt, k).moment {
+            marks[k] = 1;
         }
-        marks[k] = 1;
-        k += 1;
     }
 }

@@ -7,7 +7,5 @@ use Rattle.deciding.proofs.Keeping.{behind_step}
 use Rattle.deciding.proofs.named.Goals as goal
 
 pub loop-j-preserved : goal.loop-j-preserved
-loop-j-preserved c = (
-  behind_step (name_rows_of c.args.nt.now) c.args.c _ c.loop-j.invariant.0 (omega (arith, c.loop-j-test.true, c.requires.0, name_count c.args.nt.now)) (omega (arith, c.loop-j-test.true, c.requires.1)) (ap (λ (n : Name). n.moment) c.name_at-n.ensures),
-  omega (arith, c.loop-j-test.true),
-)
+loop-j-preserved c =
+    behind_step (name_rows_of c.args.nt.now) c.args.c c.loop-j.j c.loop-j.invariant (omega (arith, name_count c.args.nt.now)) (omega arith) (ap (λ (n : Name). n.moment) c.name_at-n.ensures)

@@ -1,19 +1,19 @@
-use mathlib.Core.Path.{ap, sym}
+use mathlib.Core.Path.{◌∙◌}
+use mathlib.Core.List.{List}
 use native.Mathlib.Omega.{arith}
+use lib.Dec.{leb}
+use borrow.Author.Tests.{tests}
+use Rattle.std.proofs.Common.{rules}
+use Rattle.std.proofs.lemmas.Iterator.{YieldsList-from_range}
+use Rattle.std.proofs.lemmas.Iterator.Search.{all_from_yields_List}
 use Rattle.model.specs.declared.Record.{Record}
+use Rattle.model.specs.ByNumber.{entry}
 use Rattle.rows.specs.Rows.{record_rows_of}
-use Rattle.deciding.proofs.Keeping.{none_older_start, none_older_step, some_older}
+use Rattle.deciding.proofs.Keeping.{all_young}
 use Rattle.deciding.proofs.none_older.Goals as goal
 
-pub loop-k-init : goal.loop-k-init
-loop-k-init c = (omega arith, none_older_start (record_rows_of c.args.rt.now) c.args.floor)
-
-pub returns-then-r-floor : goal.returns-then-r-floor
-returns-then-r-floor c =
-    sym (some_older (record_rows_of c.args.rt.now) c.args.floor c.args.nr c.loop-k.k c.loop-k-test.true (omega (arith, ap (λ (r : Record). r.moment) c.record_at-r.ensures, c.if-r-floor.true)))
-
-pub loop-k-preserved : goal.loop-k-preserved
-loop-k-preserved c = (
-  omega (arith, c.loop-k-test.true),
-  none_older_step (record_rows_of c.args.rt.now) c.args.floor c.loop-k.k c.loop-k.invariant.1 (omega (arith, ap (λ (r : Record). r.moment) c.record_at-r.ensures, c.if-r-floor.false)),
-)
+pub returns : goal.returns
+returns c =
+    let rs : List Record = record_rows_of c.args.rt.now in
+    all_from_yields_List (λ k. leb c.args.floor (entry rs k).moment) _ _ _ c.all.ensures.ran (YieldsList-from_range 0 c.args.nr c.args.nr (cc) (omega arith)) (λ x b q k. search (rules, tests))
+    ∙ all_young rs c.args.floor c.args.nr

@@ -4,6 +4,3 @@ use Rattle.deciding.proofs.starts.Given as goal
 
 abbrev pub invariant-loop-i : goal.invariant-loop-i
 invariant-loop-i l = Gathering (branch_rows_of l.bt) l.n l.floor l.i l.c l.initial.table l.table
-
-abbrev pub decreases-loop-i : goal.decreases-loop-i
-decreases-loop-i l = l.i
