@@ -242,19 +242,3 @@ kept_young bs n rs m named {nr} e f =
       rest = f.rest;
       long = f.long;
     }
-
--- the young ones, one after the other
-pub young_skip : (rs : List Record) {m k : ℕ} {old new : List ℕ} → Filled (young_too rs m old) k old new → (entry rs k).moment < m → Filled (young_too rs m old) (k + 1) old new
-young_skip rs {m} {k} {old} {new} f l =
-    record {
-      first =
-          λ j i.
-          case (eqb j k)
-          (λ d. let e : j ≡ k = eqb-true j k d in rw (e, lt-leb m (entry rs k).moment l) (f.rest k (omega arith)))
-          (λ d. let e : j ≡ k → ⊥ = eqb-false j k d in f.first j (omega arith));
-      rest = λ j i. f.rest j (omega arith);
-      long = f.long;
-    }
-
-pub young_byte : (rs : List Record) (m : ℕ) (old : List ℕ) (k : ℕ) → m ≤ (entry rs k).moment → 1 ≡ young_too rs m old k
-young_byte rs m old k l = rw (le-leb m (entry rs k).moment l)

@@ -19,6 +19,8 @@ use Rattle.model.proofs.Checked.{chained→}
 use Rattle.model.proofs.Ancestry.{chain_ordered}
 use Rattle.model.proofs.Moves.{covered}
 use Rattle.model.proofs.ByNumber.{top, chain_line}
+use Rattle.rows.specs.Rows.{branch_rows_of, BranchesIn}
+use Rattle.rows.proofs.Laws.{branch_count}
 use Rattle.holding.specs.Search.{unbroken}
 
 -- a row that was read, number by number
@@ -96,8 +98,15 @@ module _ (floor : ℕ) (rows : List Branch) where
       go (no m) f = f m
 
   -- rows that pass follow one another
-  pub passes_stairs : (n : ℕ) → n ≤ length rows → Passes n → Stairs rows n
+  passes_stairs : (n : ℕ) → n ≤ length rows → Passes n → Stairs rows n
   passes_stairs n l h = (chain_line floor rows n l (chained→ floor (newest_of rows n) h)).stairs
+
+-- and so do the rows of a table
+pub table_room : (n : ℕ) (bt : List ℕ) → BranchesIn n bt → n ≤ length (branch_rows_of bt)
+table_room n bt l = omega (arith, branch_count bt)
+
+pub table_stairs : (floor n : ℕ) (bt : List ℕ) → BranchesIn n bt → chained floor (newest_of (branch_rows_of bt) n) ≡ true → Stairs (branch_rows_of bt) n
+table_stairs floor n bt l h = passes_stairs floor (branch_rows_of bt) n (table_room n bt l) h
 
 -- a higher floor asks less
 chain_up : (floor high : ℕ) (bs : List Branch) → floor ≤ high → Chain floor bs → Chain high bs
@@ -134,17 +143,24 @@ chain_unbroken floor (b ∷ c ∷ bs) h =
 pub chained_unbroken : (floor : ℕ) (bs : List Branch) → chained floor bs ≡ true → chained (unbroken bs) bs ≡ true
 chained_unbroken floor bs h = →chained (unbroken bs) bs (chain_unbroken floor bs (chained→ floor bs h))
 
--- where the last gap ends, by the number of the row
+-- where the last gap ends, by how many rows there are
 module _ (rows : List Branch) where
-  pub unbroken_first : 1 ≤ length rows → unbroken (newest_of rows 1) ≡ 0
+  pub unbroken_few : (i : ℕ) → i ≤ 1 → i ≤ length rows → unbroken (newest_of rows i) ≡ 0
   unfolding unbroken
-  unbroken_first l = rw (top rows 0 zero_branch l)
+  unbroken_few zero a l = refl
+  unbroken_few (suc i) a l = let z : i ≡ 0 = omega arith in rw (z, top rows 0 zero_branch (omega arith))
 
-  module _ (i : ℕ) (pos : 0 < i) (room : i < length rows) where
-    pub unbroken_gap : ((branch rows i).start ≡ (branch rows (i - 1)).end + 1 → ⊥) → unbroken (newest_of rows (suc i)) ≡ (branch rows i).start
-    unfolding unbroken
-    unbroken_gap h = rw (two_rows rows i pos room, ne_eqb _ _ h)
+  module _ (i : ℕ) (more : 1 < i) (room : i ≤ length rows) where
+    last_row : newest_of rows (i - 1) ≡ branch rows (i - 1 - 1) ∷ newest_of rows (i - 1 - 1)
+    last_row = top_row rows (i - 1) (omega arith) (omega arith)
 
-    pub unbroken_on : (branch rows i).start ≡ (branch rows (i - 1)).end + 1 → unbroken (newest_of rows (suc i)) ≡ unbroken (newest_of rows i)
+    last_two : newest_of rows i ≡ branch rows (i - 1) ∷ branch rows (i - 1 - 1) ∷ newest_of rows (i - 1 - 1)
+    last_two = top_row rows i (omega arith) room ∙ ap (λ (x : List Branch). branch rows (i - 1) ∷ x) last_row
+
+    pub unbroken_gap : ((branch rows (i - 1)).start ≡ (branch rows (i - 1 - 1)).end + 1 → ⊥) → unbroken (newest_of rows i) ≡ (branch rows (i - 1)).start
     unfolding unbroken
-    unbroken_on h = rw (two_rows rows i pos room, top_row rows i pos (omega arith), eq-eqb _ _ h)
+    unbroken_gap h = rw (last_two, ne_eqb _ _ h)
+
+    pub unbroken_on : (branch rows (i - 1)).start ≡ (branch rows (i - 1 - 1)).end + 1 → unbroken (newest_of rows i) ≡ unbroken (newest_of rows (i - 1))
+    unfolding unbroken
+    unbroken_on h = rw (last_two, last_row, eq-eqb _ _ h)

@@ -48,10 +48,8 @@ fn row_from(bt: &[u32], n: usize, from: usize, t: u32) -> usize
     ensures { FirstEnding (branch_rows_of bt.now) n t result }
 {
     let b = rows::branch_at(bt, from);
-    if b.start <= t {
-        if t <= b.end {
-            return from;
-        }
+    if b.start <= t && t <= b.end {
+        return from;
     }
     first_ending(bt, n, t)
 }
@@ -100,14 +98,12 @@ pub fn unbroken_from(head: Head, bt: &[u32]) -> u32
     requires branches_value { chained head.floor (newest_of (branch_rows_of bt.now) head.branches) ≡ true }
     ensures { result ≡ unbroken (newest_of (branch_rows_of bt.now) head.branches) }
 {
-    let mut i = head.branches as usize - 1;
-    while 0 < i {
+    for i in (1..head.branches as usize).rev() {
         let b = rows::branch_at(bt, i);
         let c = rows::branch_at(bt, i - 1);
         if b.start != c.end + 1 {
             return b.start;
         }
-        i -= 1;
     }
     0
 }
