@@ -1,7 +1,7 @@
 -- The search for the branch that holds a moment: the first that ends at the moment or later is the only one that can.
 use mathlib.Core.Path.{◌≡◌, sym}
 use mathlib.Core.List.{List}
-use mathlib.Core.Bool.{Bool, true, false, cond}
+use mathlib.Core.Bool.{false, cond}
 use Prim.Native.Nat.{ℕ, ◌+◌, ◌-◌, ◌*◌, ◌≤◌, ◌<◌}
 use native.Mathlib.Nat.{le_refl}
 use native.Mathlib.Decide.{dec_lt}
@@ -24,11 +24,6 @@ pub record Bracket (rows : List Branch) (n t base len : ℕ) : Type 0 where
   pub within : base + len ≤ n
   pub below : (k : ℕ) → k < base → (branch rows k).end < t
   pub ends : t ≤ (branch rows (base + len - 1)).end
-
--- all of h or none of it
-pub at_most : (h k : ℕ) (c : Bool) → k ≡ cond c 1 0 → h * k ≤ h
-at_most h k true e = rw e (omega arith)
-at_most h k false e = rw e (omega arith)
 
 module _ (rows : List Branch) (n t : ℕ) where
   pub bracket_start : 0 < n → t ≤ (branch rows (n - 1)).end → Bracket rows n t 0 n

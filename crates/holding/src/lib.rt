@@ -16,15 +16,7 @@ pub struct Looked {
     pub row: usize,
 }
 
-// 1 where a is below b, else 0. By sums: of a test the compiler makes a jump, which in a search is guessed wrong every other time;
-// and with 2^33, since in the same sums with 2^32 it sees the test.
-fn below(a: u32, b: u32) -> usize
-    ensures { result ≡ cond (ltb a b) 1 0 }
-{
-    ((b as u64 + 8589934591 - a as u64) / 8589934592) as usize
-}
-
-// The first of n branches that ends at t or later, where the last one does.
+// The first of n branches that ends at t or later, where the last one does. Each turn moves base or leaves it, without a jump that is guessed wrong every other time.
 fn first_ending(bt: &[u32], n: usize, t: u32) -> usize
     requires n_nonzero { (0 < n) × BranchesIn n bt.now × (t ≤ (branch (branch_rows_of bt.now) (n - 1)).end) }
     requires stairs { Stairs (branch_rows_of bt.now) n }
@@ -35,7 +27,7 @@ fn first_ending(bt: &[u32], n: usize, t: u32) -> usize
     while 1 < len {
         let half = len / 2;
         let b = rows::branch_at(bt, base + half - 1);
-        base += half * below(b.end, t);
+        base += half * usize::from(b.end < t);
         len -= half;
     }
     base
