@@ -3,8 +3,10 @@ use mathlib.Core.Path.{◌≡◌, refl, ap, sym, ◌∙◌}
 use mathlib.Core.Logic.{◌≢◌}
 use mathlib.Core.List.{List, [], ◌∷◌, ◌++◌, map, append_assoc, append-nil}
 use mathlib.Core.Bool.{Bool, true, false, cond}
-use Prim.Native.Nat.{ℕ, zero, suc, ◌+◌, ◌-◌, ◌≤◌, ◌<◌}
+use Prim.Native.Nat.{ℕ, zero, suc, ◌+◌, ◌-◌, ◌*◌, ◌≤◌, ◌<◌}
 use native.Mathlib.Omega.{arith}
+use native.Mathlib.Numerals.{add-one}
+use native.Mathlib.Nat.{le-div_iff_mul-le}
 use lib.Dec.{leb, eqb}
 use lib.ListN.{length, get_or, set, take, drop, replicate, length-append, length-replicate, length-set, length-map}
 use lib.Seq.{take-suc, drop-cons, set_at, set-append_seam, get_or_at, get_or-set_same, get_or-set_other, ext_get_or, take-take, length-take-le, get_or-take}
@@ -14,10 +16,11 @@ use Rattle.model.specs.Store.{zero_record, keep}
 use Rattle.model.proofs.Base.{case}
 use Rattle.model.proofs.Places.{get_d_map_lt}
 use Rattle.model.specs.Step.{closed_up, renumbered}
-use Rattle.rows.specs.Rows.{record_rows_of, RecordsIn}
-use Rattle.rows.proofs.Laws.{record_count}
+use Rattle.rows.specs.Rows.{rows_by, Relaid, RowSet, record_rows_of, RecordSet, RecordsIn}
+use Rattle.rows.proofs.Laws.{Kind, rows_length, record_kind, record_count}
+use Rattle.rows.proofs.Relaid.{laid_own, own_then, set_length, set_rows, set_own}
 use Rattle.closing.specs.Closed.{marked, keep_by, renamed, ClosedRecords}
-use Rattle.model.specs.ByNumber.{Names}
+use Rattle.model.specs.ByNumber.{entry, Names}
 
 module _ {A : Type 0} where
   keep_by_snoc : (p : ℕ → Bool) (xs : List A) (x : A) → keep_by p (xs ++ (x ∷ [])) ≡ keep_by p xs ++ cond (p (length xs)) (x ∷ []) []
@@ -145,6 +148,37 @@ module _ {A : Type 0} where
             rows = y ∙ rw (d, going_next, q, g.rows, g.count, m) (closing_keep z p rs i (omega arith) e);
           }
 
+-- of n rows of the table t the first i are done and w of them are kept; u is the table by then
+pub record Closes {A : Type 0} (K : Kind A) (z : A) (p : ℕ → Bool) (t : List ℕ) (n : ℕ) (u : List ℕ) (i w : ℕ) : Type 0 where
+  pub going : Going z p (rows_by K.width K.make t) (rows_by K.width K.make u) n i w
+  pub laid : Relaid K.width K.fields t (rows_by K.width K.make u) u
+  pub long : length u ≡ length t
+
+-- a table that has room for n rows has n rows
+rows_room : {A : Type 0} (K : Kind A) (n : ℕ) (t : List ℕ) → n * K.width ≤ length t → n ≤ length (rows_by K.width K.make t)
+rows_room K n t h = rw (rows_length K t) ((le-div_iff_mul-le K.wide).1 h)
+
+module _ {A : Type 0} (K : Kind A) {z : A} {p : ℕ → Bool} {t : List ℕ} {n : ℕ} where
+  pub closes_start : Closes K z p t n t 0 0
+  closes_start = record { going = going_start; laid = laid_own K t; long = refl }
+
+  module _ (fits : n * K.width ≤ length t) {u : List ℕ} {i w : ℕ} (c : Closes K z p t n u i w) (l : i < n) {v : List ℕ} (s : RowSet K.width K.make K.fields u i z v) where
+    pub closes_drop : p i ≡ false → Closes K z p t n v (i + 1) w
+    closes_drop d =
+        record {
+          going = going_drop c.going (rows_room K n t fits) l d (set_rows K s);
+          laid = own_then K c.laid c.long (set_own K s);
+          long = set_length K s ∙ c.long;
+        }
+
+    pub closes_keep : {x : A} {y : List ℕ} → p i ≡ true → x ≡ get_or (rows_by K.width K.make u) i z → RowSet K.width K.make K.fields v w x y → Closes K z p t n y (i + 1) (w + 1)
+    closes_keep d e r =
+        record {
+          going = going_keep c.going (rows_room K n t fits) l d e (set_rows K s) (set_rows K r);
+          laid = own_then K (own_then K c.laid c.long (set_own K s)) (set_length K s ∙ c.long) (set_own K r);
+          long = set_length K r ∙ set_length K s ∙ c.long;
+        }
+
 -- place rows, when the records up to the row i are done
 abbrev pub partly : (ℕ → Bool) → List Record → ℕ → ℕ → ℕ
 partly p rs i v = cond (leb v i) (renamed p rs v) v
@@ -195,25 +229,6 @@ module _ (p : ℕ → Bool) (rs : List Record) where
             let l : v < n = k v refl in
             rw (le-leb (suc v) n (omega arith), take-take v n rs (omega arith))
 
-    module _ {us : List Record} {i w : ℕ} (g : Going zero_record p rs us n i w) (room : n ≤ length rs) (l : i < n) {r : Record} (e : r ≡ get_or us i zero_record) where
-      place_of : r.place ≡ (get_or rs i zero_record).place
-      place_of = ap (λ (x : Record). x.place) (e ∙ going_next g room l)
-
-      pub place_inside : r.place < length ps
-      place_inside = rw place_of (h.inside i l)
-
-      pub places_keep : {qs : List ℕ} → p i ≡ true → qs ≡ map (partly p rs i) ps → set qs r.place (w + 1) ≡ map (partly p rs (i + 1)) ps
-      places_keep {qs} d q =
-          let m : i + 1 ≡ suc i = omega arith in
-          let v : w + 1 ≡ renamed p rs (suc i) = rw d (omega (arith, g.count)) in
-          rw (v, m, q, place_of) (partly_step i l)
-
-      pub places_drop : {qs : List ℕ} → p i ≡ false → qs ≡ map (partly p rs i) ps → set qs r.place 0 ≡ map (partly p rs (i + 1)) ps
-      places_drop {qs} d q =
-          let m : i + 1 ≡ suc i = omega arith in
-          let v : 0 ≡ renamed p rs (suc i) = rw d in
-          rw (m, q, place_of) (ap (λ (x : ℕ). set (map (partly p rs i) ps) (get_or rs i zero_record).place x) v ∙ partly_step i l)
-
     -- as the model says it, where the marks are a test on records
     pub renamed_numbered : (k : Record → Bool) → ((i : ℕ) → i < n → p i ≡ k (get_or (take n rs) i zero_record)) → n ≤ length rs
         → map (renamed p (take n rs)) ps ≡ map (renumbered k (take n rs)) ps
@@ -235,6 +250,50 @@ module _ (p : ℕ → Bool) (rs : List Record) where
             keep_by_keep p k zero_record (take v rs)
             (λ i b. g i (omega arith) ∙ ap k (get_or-take n rs i zero_record (omega arith) ∙ sym (get_or-take v rs i zero_record (omega arith)))) in
             rw (g v l, t, e)
+
+-- the records of a table and the place rows, when the first i records are done
+pub record ClosesRecords (ms : List ℕ) (rt ps : List ℕ) (n : ℕ) (us qs : List ℕ) (i w : ℕ) : Type 0 where
+  pub rows : Closes record_kind zero_record (marked ms) rt n us i w
+  pub places : qs ≡ map (partly (marked ms) (record_rows_of rt) i) ps
+
+module _ {ms rt ps : List ℕ} {n : ℕ} where
+  pub records_start : ClosesRecords ms rt ps n rt ps 0 0
+  records_start = record { rows = closes_start record_kind; places = partly_start (marked ms) (record_rows_of rt) ps }
+
+  module _ (names : Names (record_rows_of rt) n ps) {us qs : List ℕ} {i w : ℕ} (c : ClosesRecords ms rt ps n us qs i w) where
+    pub records_end : n ≤ i → ClosedRecords ms n rt us ps qs w
+    records_end l =
+        let g = going_end c.rows.going l in
+        let e : i ≡ n = omega (arith, c.rows.going.within) in
+        record {
+          table = rw g.0 at c.rows.laid;
+          places = (rw e at c.places) ∙ partly_end (marked ms) (record_rows_of rt) n ps names;
+          count = g.1;
+        }
+
+    module _ (fits : RecordsIn n rt) (l : i < n) {r : Record} (e : r ≡ entry (record_rows_of us) i) where
+      place_of : r.place ≡ (entry (record_rows_of rt) i).place
+      place_of = ap (λ (x : Record). x.place) (e ∙ going_next c.rows.going (rows_room record_kind n rt fits) l)
+
+      pub records_inside : r.place < length qs
+      records_inside = rw (c.places, length-map, place_of) (names.inside i l)
+
+      module _ {vs : List ℕ} (s : RecordSet us i zero_record vs) where
+        pub records_drop : marked ms i ≡ false → ClosesRecords ms rt ps n vs (set qs r.place 0) (i + 1) w
+        records_drop d =
+            let v : 0 ≡ renamed (marked ms) (record_rows_of rt) (suc i) = rw d in
+            record {
+              rows = closes_drop record_kind fits c.rows l s d;
+              places = rw (c.places, add-one i, place_of) (ap (λ (x : ℕ). set (map (partly (marked ms) (record_rows_of rt) i) ps) (entry (record_rows_of rt) i).place x) v ∙ partly_step (marked ms) (record_rows_of rt) n ps names i l);
+            }
+
+        pub records_keep : {ys : List ℕ} → marked ms i ≡ true → RecordSet vs w r ys → ClosesRecords ms rt ps n ys (set qs r.place (w + 1)) (i + 1) (w + 1)
+        records_keep d y =
+            let v : w + 1 ≡ renamed (marked ms) (record_rows_of rt) (suc i) = rw d (omega (arith, c.rows.going.count)) in
+            record {
+              rows = closes_keep record_kind fits c.rows l s d e y;
+              places = rw (v, c.places, add-one i, place_of) (partly_step (marked ms) (record_rows_of rt) n ps names i l);
+            }
 
 -- what is kept is no more than there was
 pub count_records : {ms : List ℕ} {n : ℕ} {rt rt' ps ps' : List ℕ} {w : ℕ} → ClosedRecords ms n rt rt' ps ps' w → RecordsIn n rt → w ≤ n

@@ -15,9 +15,8 @@ pub fn close_records(rt: &mut [u32], n: usize, pt: &mut [u32], marks: &[u8]) -> 
     requires names { Names (record_rows_of rt.old) n pt.old }
     ensures { ClosedRecords marks.now n rt.old rt.new pt.old pt.new result }
 {
-    let mut i: usize = 0;
     let mut w: usize = 0;
-    while i < n {
+    for i in 0..n {
         let r = rows::record_at(rt, i);
         rows::set_record(rt, i, ZERO_RECORD);
         let p = r.place as usize;
@@ -25,11 +24,9 @@ pub fn close_records(rt: &mut [u32], n: usize, pt: &mut [u32], marks: &[u8]) -> 
             rows::set_record(rt, w, r);
             w += 1;
             pt[p] = w as u32;
-            i += 1;
-            continue;
+        } else {
+            pt[p] = 0;
         }
-        pt[p] = 0;
-        i += 1;
     }
     w
 }
@@ -39,18 +36,14 @@ pub fn close_branches(bt: &mut [u32], n: usize, marks: &[u8]) -> usize
     requires { BranchesIn n bt.old × (n ≤ length marks.now) }
     ensures { ClosedBranches marks.now n bt.old bt.new result }
 {
-    let mut i: usize = 0;
     let mut w: usize = 0;
-    while i < n {
+    for i in 0..n {
         let b = rows::branch_at(bt, i);
         rows::set_branch(bt, i, ZERO_BRANCH);
         if marks[i] == 1 {
             rows::set_branch(bt, w, b);
             w += 1;
-            i += 1;
-            continue;
         }
-        i += 1;
     }
     w
 }
