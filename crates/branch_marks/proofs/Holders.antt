@@ -2,7 +2,7 @@
 use mathlib.Core.Path.{◌≡◌, sym}
 use mathlib.Core.List.{List, ◌∷◌}
 use mathlib.Core.Bool.{true, false, false≢true}
-use Prim.Native.Nat.{ℕ, zero, suc, ◌-◌, ◌≤◌, ◌<◌}
+use Prim.Native.Nat.{ℕ, zero, suc, ◌+◌, ◌-◌, ◌≤◌, ◌<◌}
 use native.Mathlib.Omega.{arith}
 use lib.Dec.{ltb, eqb}
 use lib.ListN.{length}
@@ -77,6 +77,30 @@ module _ {bs : List Branch} {n : ℕ} (h : Stairs bs n) where
         let q : s ≡ mid = omega arith in
         let z : (branch bs mid).start ≤ t = rw q at k.low in
         absurd (omega arith)))
+
+-- the row that holds t is one of those from lo up to hi, without hi
+pub record Between (bs : List Branch) (n t lo hi : ℕ) : Type 0 where
+  pub found : Holder bs n t (holder bs n t)
+  pub low : lo ≤ holder bs n t
+  pub high : holder bs n t < hi
+  pub within : hi ≤ n
+
+pub between_start : (bs : List Branch) (n t : ℕ) → n ≤ length bs → held bs n t ≡ true → Between bs n t 0 n
+between_start bs n t room h =
+    let k = holder_of bs n t room h in
+    record { found = k; low = omega arith; high = k.inside; within = omega arith }
+
+module _ {bs : List Branch} {n t lo hi : ℕ} (k : Between bs n t lo hi) where
+  module _ (h : Stairs bs n) {mid : ℕ} (l : mid < hi) {b : Branch} (e : b ≡ branch bs mid) where
+    pub between_up : b.start ≤ t → Between bs n t mid hi
+    between_up a = record { found = k.found; low = holder_up h k.found mid (omega (arith, k.within)) (rw e at a); high = k.high; within = k.within }
+
+    pub between_down : t < b.start → Between bs n t lo mid
+    between_down a =
+        record { found = k.found; low = k.low; high = holder_down h k.found mid (omega (arith, k.within)) (rw e at a); within = omega (arith, k.within) }
+
+  pub between_end : hi ≤ lo + 1 → Holder bs n t lo
+  between_end l = let e : lo ≡ holder bs n t = omega (arith, k.low, k.high) in rw e k.found
 
 -- the row that holds a moment, tried
 pub row_here : {bs : List Branch} {n i m : ℕ} {b : Branch} → Stairs bs n → i < n → b ≡ branch bs i → b.start ≤ m → m ≤ b.end → Holder bs n m i

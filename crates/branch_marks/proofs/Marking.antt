@@ -1,7 +1,7 @@
 -- The laws of tables that are filled.
 use mathlib.Core.Path.{◌≡◌, refl, sym, ◌∙◌}
 use mathlib.Core.List.{List}
-use Prim.Native.Nat.{ℕ, ◌+◌, ◌≤◌, ◌<◌}
+use Prim.Native.Nat.{ℕ, ◌≤◌, ◌<◌}
 use native.Mathlib.Omega.{arith}
 use lib.Dec.{eqb}
 use lib.ListN.{length, set, length-set}
@@ -10,38 +10,13 @@ use borrow.Author.Tests.{eqb-true, eqb-false}
 use Rattle.model.proofs.Base.{case}
 use Rattle.branch_marks.specs.Marks.{Filled, Rest}
 
-pub filled_start : {f : ℕ → ℕ} {t : List ℕ} → Filled f 0 t t
-filled_start = record { first = λ k l. absurd (omega arith); rest = λ k l. refl; long = refl }
-
-pub filled_step : {f : ℕ → ℕ} {i : ℕ} {old new : List ℕ} → Filled f i old new → i < length old → {v : ℕ} → v ≡ f i → Filled f (i + 1) old (set new i v)
-filled_step {f} {i} {old} {new} h l {v} e =
-    record {
-      first =
-          λ k a.
-          case (eqb k i)
-          (λ d.
-          let q : k ≡ i = eqb-true k i d in
-          rw q (get_or-set_same new i v 0 (omega (arith, h.long)) ∙ e))
-          (λ d.
-          let ne : k ≡ i → ⊥ = eqb-false k i d in
-          get_or-set_other new i k v 0 ne ∙ h.first k (omega arith));
-      rest = λ k a. get_or-set_other new i k v 0 (λ q. omega arith) ∙ h.rest k (omega arith);
-      long = length-set new i v ∙ h.long;
-    }
-
-pub filled_end : {f : ℕ → ℕ} {i n : ℕ} {old new : List ℕ} → Filled f i old new → i ≤ n → n ≤ i → Filled f n old new
-filled_end {f} {i} {n} h a b = let e : i ≡ n = omega arith in rw e at h
-
--- the numbers from n on stay where one below n is set, last or first
+-- the numbers from n on stay where one below n is set
 pub rest_start : {n : ℕ} {t : List ℕ} → Rest n t t
 rest_start = record { rest = λ k a. refl; long = refl }
 
 pub rest_set : {n : ℕ} {old new : List ℕ} (i v : ℕ) → Rest n old new → i < n → Rest n old (set new i v)
 rest_set {n} {old} {new} i v r l =
     record { rest = λ k a. get_or-set_other new i k v 0 (λ e. omega arith) ∙ r.rest k a; long = length-set new i v ∙ r.long }
-
-pub rest_from : {n : ℕ} {new : List ℕ} (old : List ℕ) (i v : ℕ) → Rest n (set old i v) new → i < n → Rest n old new
-rest_from old i v r l = record { rest = λ k a. r.rest k a ∙ get_or-set_other old i k v 0 (λ e. omega arith); long = r.long ∙ length-set old i v }
 
 -- one number more is set
 pub filled_set : {f g : ℕ → ℕ} {n i v : ℕ} {old new : List ℕ} → Filled f n old new → i < n → n ≤ length old

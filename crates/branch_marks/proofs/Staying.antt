@@ -8,7 +8,7 @@ use native.Mathlib.Numerals.{add-one}
 use lib.Dec.{leb, ltb, eqb}
 use lib.ListN.{length, get_or, set, take}
 use lib.Seq.{take-suc, length-take-le, get_or-take}
-use borrow.Author.Tests.{leb-false, ltb-false, eq-eqb, ne_eqb, le-leb, lt-leb, lt-ltb, le-ltb}
+use borrow.Author.Tests.{leb-false, ltb-false, eq-eqb, ne_eqb, lt-ltb, le-ltb}
 use Rattle.model.specs.declared.Branch.{Branch}
 use Rattle.model.specs.declared.Record.{Record}
 use Rattle.model.specs.declared.Name.{Name}
@@ -31,20 +31,6 @@ or_no false = refl
 any_snoc : (p : ℕ → Bool) (ts : List ℕ) (t : ℕ) → any p (ts ++ (t ∷ [])) ≡ (any p ts || p t)
 unfolding any
 any_snoc p ts t = any_append p ts (t ∷ []) ∙ ap (λ (b : Bool). any p ts || b) (case (p t) (λ e. rw e) (λ e. rw e))
-
--- whether a row stays by its start and end
-module _ (floor : ℕ) (b : Branch) where
-  pub stays_first : b.start ≡ 0 → 1 ≡ bit (stays floor [] [] b)
-  unfolding stays any
-  stays_first e = rw (eq-eqb b.start 0 e)
-
-  pub stays_late : (b.start ≡ 0 → ⊥) → floor ≤ b.end → 1 ≡ bit (stays floor [] [] b)
-  unfolding stays any
-  stays_late ne l = rw (ne_eqb b.start 0 ne, le-leb floor b.end l)
-
-  pub stays_neither : (b.start ≡ 0 → ⊥) → b.end < floor → 0 ≡ bit (stays floor [] [] b)
-  unfolding stays any
-  stays_neither ne l = rw (ne_eqb b.start 0 ne, lt-leb floor b.end l)
 
 -- no moment marks nothing, and one more the row that holds it
 pub held_none : (bs : List Branch) {n : ℕ} {ms : List ℕ} → Filled (held_too bs [] ms) n ms ms

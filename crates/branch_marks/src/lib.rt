@@ -25,6 +25,7 @@ pub fn row_holding(bt: &[u32], n: usize, t: u32) -> usize
     requires t_value { held (branch_rows_of bt.now) n t ≡ true }
     ensures { Holder (branch_rows_of bt.now) n t result }
 {
+    // Kept: the library's search is of a slice's elements; a row is four numbers of a flat table, as the C interface lends it.
     let mut lo: usize = 0;
     let mut hi = n;
     while lo + 1 < hi {
@@ -67,13 +68,7 @@ pub fn row_near(bt: &[u32], n: usize, m: u32, i: usize) -> usize
 fn first_or_late(b: Branch, floor: u32) -> u8
     ensures { result ≡ bit (stays floor [] [] b) }
 {
-    if b.start == 0 {
-        return 1;
-    }
-    if floor <= b.end {
-        return 1;
-    }
-    0
+    u8::from(b.start == 0 || floor <= b.end)
 }
 
 // The bytes of n rows by their starts and ends.
@@ -81,11 +76,8 @@ fn mark_ends(bt: &[u32], n: usize, floor: u32, marks: &mut [u8])
     requires { BranchesIn n bt.now × (n ≤ length marks.old) }
     ensures { Filled (kept_branch (branch_rows_of bt.now) floor [] []) n marks.old marks.new }
 {
-    let mut i: usize = 0;
-    while i < n {
-        let b = rows::branch_at(bt, i);
-        marks[i] = first_or_late(b, floor);
-        i += 1;
+    for i in 0..n {
+        marks[i] = first_or_late(rows::branch_at(bt, i), floor);
     }
 }
 
@@ -97,12 +89,10 @@ fn mark_named(bt: &[u32], n: usize, nt: &[u32], k: usize, marks: &mut [u8])
     ensures { Filled (held_too (branch_rows_of bt.now) (moments (take k (name_rows_of nt.now))) marks.old) n marks.old marks.new }
 {
     let mut i: usize = 0;
-    let mut q: usize = 0;
-    while q < k {
+    for q in 0..k {
         let name = rows::name_at(nt, q);
         i = row_near(bt, n, name.moment, i);
         marks[i] = 1;
-        q += 1;
     }
 }
 
@@ -114,11 +104,9 @@ fn mark_kept(bt: &[u32], n: usize, rt: &[u32], nr: usize, kept: &[u8], floor: u3
     ensures { Filled (held_too (branch_rows_of bt.now) (older_moments floor (keep_by (marked kept.now) (take nr (record_rows_of rt.now)))) marks.old) n marks.old marks.new }
 {
     let mut i: usize = 0;
-    let mut j: usize = 0;
-    while j < nr {
+    for j in 0..nr {
         let byte = kept[j];
         let r = rows::record_at(rt, j);
-        j += 1;
         if byte != 1 {
             continue;
         }

@@ -22,6 +22,7 @@ fn first_ending(bt: &[u32], n: usize, t: u32) -> usize
     requires stairs { Stairs (branch_rows_of bt.now) n }
     ensures { FirstEnding (branch_rows_of bt.now) n t result }
 {
+    // Kept: the library's search is of a slice's elements; a row is four numbers of a flat table, as the C interface lends it.
     let mut base: usize = 0;
     let mut len = n;
     while 1 < len {

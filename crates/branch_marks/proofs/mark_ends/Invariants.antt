@@ -1,4 +1,3 @@
-use Prim.Native.Nat.{◌≤◌, ◌-◌}
 use mathlib.Core.List.{[]}
 use Rattle.rows.specs.Rows.{branch_rows_of}
 use Rattle.branch_marks.specs.Marks.{Filled, kept_branch}
@@ -6,7 +5,4 @@ use Rattle.branch_marks.proofs.mark_ends.Given as goal
 
 -- `branch_marks::mark_ends` meets its contract: row by row.
 abbrev pub invariant-loop-i : goal.invariant-loop-i
-invariant-loop-i l = (l.i ≤ l.n) × Filled (kept_branch (branch_rows_of l.bt) l.floor [] []) l.i l.initial.marks l.marks
-
-abbrev pub decreases-loop-i : goal.decreases-loop-i
-decreases-loop-i l = l.n - l.i
+invariant-loop-i l = Filled (kept_branch (branch_rows_of l.bt) l.floor [] []) l.i l.initial.marks l.marks

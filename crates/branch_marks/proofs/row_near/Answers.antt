@@ -1,7 +1,4 @@
-use Prim.Native.Nat.{◌≤◌}
 use native.Mathlib.Omega.{arith}
-use lib.ListN.{length}
-use Rattle.rows.specs.Rows.{branch_rows_of}
 use Rattle.rows.proofs.Laws.{branch_count}
 use Rattle.branch_marks.proofs.Holders.{row_here, row_before}
 use Rattle.branch_marks.proofs.row_near.Goals as goal
@@ -12,5 +9,4 @@ returns-then-m-b c =
 
 pub returns-then-d-m : goal.returns-then-d-m
 returns-then-d-m c =
-    let room : c.args.n ≤ length (branch_rows_of c.args.bt.now) = omega (arith, branch_count c.args.bt.now, c.requires.branches_in) in
-    row_before c.requires.stairs (room) c.requires.m_value c.requires.branches_in.1 c.if-i-eq0.false c.branch_at-b.ensures c.if-b-m.false c.branch_at-d.ensures c.if-d-m.true
+    row_before c.requires.stairs (omega (arith, branch_count c.args.bt.now)) c.requires.m_value c.requires.branches_in.1 c.if-i-eq0.false c.branch_at-b.ensures c.if-b-m.false c.branch_at-d.ensures c.if-d-m.true
