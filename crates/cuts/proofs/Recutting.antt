@@ -1,6 +1,5 @@
 -- The laws of rows that are cut anew, one row at a time, and what of them stays.
 use mathlib.Core.Path.{◌≡◌, refl, ap, ap₂, sym, ◌∙◌}
-use mathlib.Core.Logic.{◌⊎◌, inl, inr}
 use mathlib.Core.List.{List, [], ◌∷◌, ◌++◌, map, map-append, append-nil}
 use mathlib.Core.Bool.{Bool, true, false, cond}
 use Prim.Native.Nat.{ℕ, zero, suc, ◌+◌, ◌≤◌, ◌<◌}
@@ -18,6 +17,9 @@ use Rattle.model.specs.ByNumber.{branch, newest_of, held, Stairs, Line}
 use Rattle.model.proofs.Base.{case, keep_append, keep_true, keep_false}
 use Rattle.model.proofs.Ancestry.{→holds}
 use Rattle.model.proofs.ByNumber.{top}
+use Rattle.rows.specs.Rows.{branch_rows_of, BranchesIn, BranchesLaid, BranchSet}
+use Rattle.rows.proofs.Laws.{branch_kind, branch_count}
+use Rattle.rows.proofs.Relaid.{laid_own, laid_rows, laid_then, set_length}
 use Rattle.closing.specs.Closed.{keep_by}
 use Rattle.closing.proofs.Closing.{kept_more, kept_less}
 use Rattle.branch_marks.specs.Marks.{holder, Holder}
@@ -130,57 +132,64 @@ module _ (p : ℕ → Bool) (bs : List Branch) where
   recut_few zero a = refl
   recut_few (suc m) a = let z : m ≡ 0 = omega arith in rw z recut_first
 
--- how far it is: the rows below i have their new cuts
-pub record Going (p : ℕ → Bool) (bs us : List Branch) (n i : ℕ) : Type 0 where
+-- the table u is t with its first i rows cut anew, of n
+pub record Cut (p : ℕ → Bool) (t : List ℕ) (n : ℕ) (u : List ℕ) (i : ℕ) : Type 0 where
   pub some : 0 < i
-  pub within : (i ≤ n) ⊎ (i ≡ 1)
-  pub rows : us ≡ recut p bs i
+  pub within : i ≤ n + 1
+  pub long : length u ≡ length t
+  pub laid : BranchesLaid t (recut p (branch_rows_of t) i) u
 
-module _ {p : ℕ → Bool} {bs : List Branch} {n : ℕ} where
-  pub going_start : Going p bs bs n 1
-  going_start = record { some = omega arith; within = inr refl; rows = sym (recut_first p bs) }
+module _ {p : ℕ → Bool} {t : List ℕ} where
+  pub cut_start : {n : ℕ} → Cut p t n t 1
+  cut_start = record { some = omega arith; within = omega arith; long = refl; laid = rw (recut_first p (branch_rows_of t)) (laid_own branch_kind t) }
 
-  pub going_end : {us : List Branch} {i : ℕ} → Going p bs us n i → n ≤ i → us ≡ recut p bs n
-  going_end {us} {i} g l =
-      elim g.within [
-        | inl a ↦ let z : i ≡ n = omega arith in rw z at g.rows
-        | inr z ↦ (rw z at g.rows) ∙ (recut_first p bs ∙ sym (recut_few p bs n (omega arith)))
-      ]
+  pub cut_end : {n i : ℕ} {u : List ℕ} → Cut p t n u i → (1 ≤ n → i ≤ n) → n ≤ i → BranchesLaid t (recut p (branch_rows_of t) n) u
+  cut_end {n = zero} {i} g c l = let e : i ≡ 1 = omega (arith, g.some, g.within) in rw (recut_few p (branch_rows_of t) 0 (omega arith), ← recut_first p (branch_rows_of t), ← e) g.laid
+  cut_end {n = suc n} {i} g c l = let e : suc n ≡ i = omega arith in rw e g.laid
 
-  module _ {us : List Branch} {i : ℕ} (g : Going p bs us n i) (h : Line bs n) (room : n ≤ length bs) (l : i < n) where
+  module _ {n : ℕ} (h : Line (branch_rows_of t) n) (fits : BranchesIn n t) {u : List ℕ} {i : ℕ} (g : Cut p t n u i) (l : i < n) where
+    room : n ≤ length (branch_rows_of t)
+    room = omega (arith, branch_count t)
+
+    rows : branch_rows_of u ≡ recut p (branch_rows_of t) i
+    rows = laid_rows branch_kind g.laid g.long
+
     -- what the search for the parent asks
-    pub going_stairs : Stairs us i
-    going_stairs =
-        let s : Stairs (recut p bs i) n = recut_stairs p bs i (omega arith) h.stairs in
-        rw g.rows (record { ordered = λ k a. s.ordered k (omega arith); apart = λ k j a b. s.apart k j a (omega arith) })
+    pub cut_stairs : Stairs (branch_rows_of u) i
+    cut_stairs =
+        let s : Stairs (recut p (branch_rows_of t) i) n = recut_stairs p (branch_rows_of t) i (omega (arith, room)) h.stairs in
+        rw rows (record { ordered = λ k a. s.ordered k (omega arith); apart = λ k j a b. s.apart k j a (omega arith) })
 
-    pub going_row : branch us i ≡ branch bs i
-    going_row = rw g.rows (recut_above p bs i i (omega arith))
+    row : branch (branch_rows_of u) i ≡ branch (branch_rows_of t) i
+    row = rw rows (recut_above p (branch_rows_of t) i i (omega arith))
 
-    pub going_held : {b : Branch} → b ≡ branch us i → held us i b.cut ≡ true
-    going_held e =
-        rw (e, going_row, g.rows) (recut_held p bs i (omega arith) i (branch bs i).cut (omega arith) ∙ h.parent i g.some l)
+    pub cut_held : {b : Branch} → b ≡ branch (branch_rows_of u) i → held (branch_rows_of u) i b.cut ≡ true
+    cut_held e =
+        rw (e, row, rows) (recut_held p (branch_rows_of t) i (omega (arith, room)) i (branch (branch_rows_of t) i).cut (omega (arith, room)) ∙ h.parent i g.some l)
 
-    module _ {b : Branch} {q : ℕ} (e : b ≡ branch us i) (k : Holder us i b.cut q) where
-      parent_holds : holds (branch bs q) (branch bs i).cut ≡ true
+    module _ {b : Branch} {q : ℕ} (e : b ≡ branch (branch_rows_of u) i) (k : Holder (branch_rows_of u) i b.cut q) where
+      parent_holds : holds (branch (branch_rows_of t) q) (branch (branch_rows_of t) i).cut ≡ true
       parent_holds =
-          sym (recut_holds p bs i (omega arith) q (branch bs i).cut)
-          ∙ rw (← g.rows, ← going_row, ← e) (→holds (branch us q) b.cut k.low k.high)
+          sym (recut_holds p (branch_rows_of t) i (omega (arith, room)) q (branch (branch_rows_of t) i).cut)
+          ∙ rw (← rows, ← row, ← e) (→holds (branch (branch_rows_of u) q) b.cut k.low k.high)
 
-      pub going_stays : p q ≡ true → Going p bs us n (i + 1)
-      going_stays c =
+      pub cut_stays : p q ≡ true → Cut p t n u (i + 1)
+      cut_stays c =
           record {
             some = omega arith;
-            within = inl (omega arith);
-            rows = rw (add-one i, g.rows) (recut_stays p bs h.stairs l k.inside parent_holds c);
+            within = omega arith;
+            long = g.long;
+            laid = rw (add-one i, ← recut_stays p (branch_rows_of t) h.stairs l k.inside parent_holds c) g.laid;
           }
 
-      pub going_goes : {d : Branch} {vs : List Branch} → p q ≡ false → d ≡ branch us q → vs ≡ set us i (with_cut b d.cut) → Going p bs vs n (i + 1)
-      going_goes {d} {vs} c f v =
+      pub cut_goes : {d : Branch} {v : List ℕ} → p q ≡ false → d ≡ branch (branch_rows_of u) q → BranchSet u i (with_cut b d.cut) v → Cut p t n v (i + 1)
+      cut_goes {d} c f s =
+          let z : set (branch_rows_of u) i (with_cut b d.cut) ≡ recut p (branch_rows_of t) (suc i) = rw (e, f, rows) (recut_goes p (branch_rows_of t) h.stairs room l k.inside parent_holds c) in
           record {
             some = omega arith;
-            within = inl (omega arith);
-            rows = rw (add-one i, v, e, f, g.rows) (recut_goes p bs h.stairs room l k.inside parent_holds c);
+            within = omega arith;
+            long = set_length branch_kind s ∙ g.long;
+            laid = rw (add-one i, ← z) (laid_then branch_kind g.laid g.long s.laid);
           }
 
 -- the rows that stay, with their new cuts, are those that the model leaves

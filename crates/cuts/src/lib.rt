@@ -15,22 +15,13 @@ pub fn take_over(bt: &mut [u32], n: usize, marks: &[u8])
     requires line { Line (branch_rows_of bt.old) n }
     ensures { BranchesLaid bt.old (recut (marked marks.now) (branch_rows_of bt.old) n) bt.new }
 {
-    let mut i: usize = 1;
-    while i < n {
+    for i in 1..n {
         let b = rows::branch_at(bt, i);
         let p = branch_marks::row_near(bt, i, b.cut, i - 1);
         if marks[p] == 1 {
-            i += 1;
             continue;
         }
         let d = rows::branch_at(bt, p);
-        let taken = Branch {
-            start: b.start,
-            end: b.end,
-            cut: d.cut,
-            order: b.order,
-        };
-        rows::set_branch(bt, i, taken);
-        i += 1;
+        rows::set_branch(bt, i, Branch { cut: d.cut, ..b });
     }
 }
