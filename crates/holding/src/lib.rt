@@ -1,7 +1,7 @@
 // Which branch row holds a moment, where the counted rows are chained (check 2 of crate soundness).
 #![tactic(auto)]
 
-ghost use Rattle.std.specs.Prelude.{◌≡◌, true, cond, ◌-◌, ◌≤◌, ◌<◌, ltb};
+ghost use Rattle.std.specs.Prelude.{◌≡◌, true, ◌-◌, ◌≤◌, ◌<◌};
 ghost use Rattle.model.specs.Soundness.{chained};
 ghost use Rattle.model.specs.ByNumber.{branch, newest_of, held, Stairs};
 ghost use Rattle.rows.specs.Rows.{branch_rows_of, BranchesIn};
