@@ -6,8 +6,7 @@ use mathlib.Core.Bool.{true}
 use Prim.Native.Nat.{ℕ, zero, suc, ◌+◌, ◌-◌, ◌*◌, ◌≤◌, ◌<◌}
 use native.Mathlib.Omega.{arith}
 use lib.Dec.{leb, ltb, eqb}
-use lib.ListN.{length, get_or, set, length-set}
-use lib.Seq.{get_or-set_same, get_or-set_other}
+use lib.ListN.{length, get_or}
 use borrow.Author.Tests.{leb-true, le-leb, ltb-true, ltb-false, eqb-true, eqb-false, eq-eqb}
 use Rattle.model.specs.declared.Branch.{Branch}
 use Rattle.model.specs.Store.{◌∈◌, zero_branch}
@@ -21,7 +20,7 @@ use Rattle.branch_marks.proofs.Holders.{parent_holder}
 use Rattle.spans.specs.Order.{when, kind, Falling}
 use Rattle.sorting.specs.Sorted.{tally, Sorted}
 use Rattle.branch_marks.specs.Marks.{Held}
-use Rattle.events.specs.Keys.{wanted_key, cut_key, Laid, Keyed, Listed}
+use Rattle.events.specs.Keys.{wanted_key, cut_key, Laid, Keyed}
 
 -- tallies
 tally_find : (v : ℕ) (xs : List ℕ) (lo h : ℕ) → 0 < tally v xs lo h → (q : ℕ) × (lo ≤ q) × (q < h) × (get_or xs q 0 ≡ v)
@@ -224,31 +223,7 @@ module _ {bs : List Branch} {n : ℕ} {wanted : List ℕ} {ne : ℕ} {old new : 
             };
       }
 
--- laying
-pub laid_start : {f : ℕ → ℕ} {at : ℕ} {t : List ℕ} → Laid f at 0 t t
-laid_start = record { inside = λ i l. absurd (omega arith); below = λ x l. refl; above = λ x l. refl; long = refl }
-
-pub laid_step : {f : ℕ → ℕ} {at m v : ℕ} {old new : List ℕ} → Laid f at m old new → at + m < length old → v ≡ f m → Laid f at (m + 1) old (set new (at + m) v)
-laid_step {f} {at} {m} {v} {old} {new} g l e =
-    record {
-      inside =
-          λ i a.
-          case (eqb i m)
-          (λ d. rw (eqb-true i m d) (get_or-set_same new (at + m) v 0 (omega (arith, g.long)) ∙ e))
-          (λ d.
-          let z : i ≡ m → ⊥ = eqb-false i m d in
-          get_or-set_other new (at + m) (at + i) v 0 (λ (y : at + i ≡ at + m). z (omega arith)) ∙ g.inside i (omega arith));
-      below = λ x a. get_or-set_other new (at + m) x v 0 (λ (y : x ≡ at + m). omega arith) ∙ g.below x a;
-      above = λ x a. get_or-set_other new (at + m) x v 0 (λ (y : x ≡ at + m). omega arith) ∙ g.above x (omega arith);
-      long = length-set new (at + m) v ∙ g.long;
-    }
-
-pub laid_first : {f : ℕ → ℕ} {m v : ℕ} {old new : List ℕ} → Laid f 0 m old new → m < length old → v ≡ f m → Laid f 0 (m + 1) old (set new m v)
-laid_first {f} {m} {v} {old} {new} g l e = let z : 0 + m ≡ m = omega arith in rw z at (laid_step g (omega arith) e)
-
-pub laid_end : {f : ℕ → ℕ} {at i m : ℕ} {old new : List ℕ} → Laid f at i old new → i ≤ m → m ≤ i → Laid f at m old new
-laid_end {f} {at} {i} {m} g a b = let e : i ≡ m = omega arith in rw e at g
-
+-- the keys when both kinds are laid
 pub keys_of : {bs : List Branch} {n : ℕ} {wanted : List ℕ} {old mid new : List ℕ} → 0 < n → n ≤ 4096
     → Laid (wanted_key wanted) 0 (length wanted) old mid → Laid (cut_key bs) (length wanted) (n - 1) mid new → Keys bs n wanted (length wanted + n - 1) new
 keys_of {bs} {n} {wanted} {old} {mid} {new} z l f g =
@@ -258,7 +233,3 @@ keys_of {bs} {n} {wanted} {old} {mid} {new} z l f g =
       want = λ q a. g.below q a ∙ (let e : 0 + q ≡ q = omega arith in rw e at (f.inside q a));
       cut = g.inside;
     }
-
-pub listed : {bs : List Branch} {n : ℕ} {wanted : List ℕ} {ne : ℕ} {old mid laid new : List ℕ}
-    → Laid (wanted_key wanted) 0 (length wanted) old mid → Laid (cut_key bs) (length wanted) (n - 1) mid laid → Sorted 0 ne laid new → Listed bs n wanted ne old new
-listed {mid = mid} {laid = laid} f g o = record { moments = mid; events = laid; first = f; second = g; sorted = o }

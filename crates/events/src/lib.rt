@@ -13,10 +13,8 @@ pub fn put_wanted(wanted: &[u32], keys: &mut [u64])
     requires { length wanted.now ≤ length keys.old }
     ensures { Laid (wanted_key wanted.now) 0 (length wanted.now) keys.old keys.new }
 {
-    let mut q: usize = 0;
-    while q < wanted.len() {
-        keys[q] = wanted[q] as u64 * 4294967296;
-        q += 1;
+    for (q, &m) in wanted.iter().enumerate() {
+        keys[q] = m as u64 * 4294967296;
     }
 }
 
@@ -25,11 +23,9 @@ pub fn put_cuts(bt: &[u32], n: usize, at: usize, keys: &mut [u64])
     requires { BranchesIn n bt.now × (n ≤ 4096) × (at ≤ 16384) × (0 < n) × (at + n ≤ length keys.old + 1) }
     ensures { Laid (cut_key (branch_rows_of bt.now)) at (n - 1) keys.old keys.new }
 {
-    let mut i: usize = 0;
-    while i < n - 1 {
+    for i in 0..n - 1 {
         let b = rows::branch_at(bt, i + 1);
         keys[at + i] = b.cut as u64 * 4294967296 + (i + 1) as u64;
-        i += 1;
     }
 }
 
