@@ -6,8 +6,10 @@ use mathlib.Core.Bool.{Bool, true, false}
 use Prim.Native.Nat.{ℕ, zero, suc, ◌+◌, ◌-◌, ◌/◌, ◌≤◌, ◌<◌}
 use native.Mathlib.Omega.{arith}
 use lib.Dec.{leb, ltb, eqb}
-use lib.ListN.{length, get_or}
-use borrow.Author.Tests.{leb-true, leb-false, ltb-true, ltb-false, eqb-true, eqb-false, eq-eqb, ne_eqb}
+use lib.ListN.{length, get_or, take}
+use borrow.Author.Tests.{leb-true, leb-false, ltb-true, ltb-false, eqb-true, eqb-false, eq-eqb, ne_eqb, le-leb}
+use Rattle.std.specs.List.Sorted.{IsPartitionedBy, IsPartitionPoint}
+use Rattle.std.proofs.lemmas.List.{get_or-take, get_or_default, length-take}
 use Rattle.model.specs.declared.Branch.{Branch}
 use Rattle.model.specs.Lookup.{holds}
 use Rattle.model.proofs.Base.{case, absurd_test}
@@ -88,6 +90,25 @@ just_above {keys} {ne} f m c l a b =
     let low : c ≤ above keys ne m = case (ltb 0 c) (λ d. let z = ltb-true 0 c d in omega (arith, search_up keys ne m (c - 1) (omega arith) (a z))) (λ d. let z = ltb-false 0 c d in omega arith) in
     let high : above keys ne m ≤ c = case (ltb c ne) (λ d. search_down f m c (b (ltb-true c ne d))) (λ d. omega (arith, ltb-false c ne d, above_within keys ne m)) in
     eq-eqb c (above keys ne m) (omega (arith, low, high))
+
+-- the keys pass the test of the search up to where they fall below the moment, and the search finds that place
+module _ {keys : List ℕ} {ne : ℕ} (f : Falling keys ne) (within : ne ≤ length keys) (m : ℕ) where
+  taken : (k d : ℕ) → k < ne → get_or (take ne keys) k d ≡ get_or keys k 0
+  taken k d l = get_or-take ne keys k d l ∙ get_or_default keys k d 0 (omega arith)
+
+  pub above_parted : IsPartitionedBy (λ (key : ℕ). leb m (key / 4294967296)) (take ne keys)
+  unfolding when
+  above_parted i j d l b e =
+      let b' : j < ne = omega (arith, length-take ne keys) in
+      let a : m ≤ get_or keys j 0 / 4294967296 = rw (taken j d b') at (leb-true m (get_or (take ne keys) j d / 4294967296) e) in
+      rw (taken i d (omega arith)) (le-leb m (get_or keys i 0 / 4294967296) (omega (arith, f.falls i j l b')))
+
+  pub above_point : {c : ℕ} → c ≤ length (take ne keys) → IsPartitionPoint (λ (key : ℕ). leb m (key / 4294967296) ≡ true) (λ (key : ℕ). leb m (key / 4294967296) ≡ false) (take ne keys) c → c ≡ above keys ne m
+  above_point {c} b p =
+      eqb-true c (above keys ne m)
+      (just_above f m c (omega (arith, length-take ne keys))
+      (λ z. rw (taken (c - 1) 0 (omega (arith, length-take ne keys))) at (leb-true m (get_or (take ne keys) (c - 1) 0 / 4294967296) (p.0 (c - 1) 0 (omega arith) (omega arith))))
+      (λ z. rw (taken c 0 z) at (leb-false m (get_or (take ne keys) c 0 / 4294967296) (p.1 c 0 (omega arith) (omega (arith, length-take ne keys))))))
 
 pub tried : {keys : List ℕ} {ne : ℕ} → Falling keys ne → (m c : ℕ) → c ≤ ne → (c < ne → get_or keys c 0 / 4294967296 < m) → reaches keys m c ≡ eqb c (above keys ne m)
 tried {keys} {ne} f m c l b =

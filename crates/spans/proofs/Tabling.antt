@@ -2,16 +2,17 @@
 use mathlib.Core.Path.{◌≡◌, refl, ap, sym, ◌∙◌}
 use mathlib.Core.List.{List}
 use mathlib.Core.Bool.{true, cond}
-use Prim.Native.Nat.{ℕ, zero, suc, ◌+◌, ◌-◌, ◌/◌, ◌%◌, ◌≤◌, ◌<◌}
+use Prim.Native.Nat.{ℕ, zero, suc, ◌+◌, ◌-◌, ◌/◌, ◌%◌, ◌≤◌, ◌<◌, max, min}
 use native.Mathlib.Omega.{arith}
 use lib.Dec.{ltb, eqb}
 use lib.ListN.{length, get_or, set, length-set}
 use lib.Seq.{get_or-set_same, get_or-set_other}
 use borrow.Author.Tests.{ltb-true, ltb-false, eqb-true, eqb-false, lt-ltb, le-ltb}
+use Rattle.std.proofs.lemmas.Bool.Decides.{nat_tests}
 use Rattle.model.specs.declared.Branch.{Branch}
 use Rattle.model.proofs.Base.{case}
 use Rattle.model.specs.ByNumber.{branch, held, Line}
-use Rattle.branch_marks.specs.Marks.{holder, Holder, Filled}
+use Rattle.branch_marks.specs.Marks.{holder, Holder}
 use Rattle.branch_marks.proofs.Holders.{holder_of, holder_is}
 use Rattle.spans.specs.Order.{when, kind, above, first_of, past_of, Tree, Edges, Sums, Fits, Firsts, span_low, span_high, first_moment, last_moment, Ranged}
 use Rattle.spans.proofs.Bounds.{Stage, next_small, first_small}
@@ -259,15 +260,6 @@ module _ {bs : List Branch} {n : ℕ} {keys : List ℕ} {ne : ℕ} (h : Line bs 
         let u₂ = sums_rising su (above keys ne m) (past_of bs keys ne i) b w.1 in
         record { early = omega (arith, w.1); first = a; up = u; small = omega (arith, u, u₂, f.fits) }
 
-pub sums_start : (bs : List Branch) (keys : List ℕ) (ne : ℕ) {sums : List ℕ} → get_or sums 0 0 ≡ 0 → Sums bs keys ne 0 sums
-sums_start bs keys ne {sums} e =
-    record {
-      small = λ k l. let z : k ≡ 0 = omega arith in rw z (omega (arith, e));
-      rises = λ k l. absurd (omega arith);
-      leaf = λ k l. absurd (omega arith);
-      inner = λ k l. absurd (omega arith);
-    }
-
 -- as the code has them
 pub kind_is : (keys : List ℕ) (k : ℕ) → get_or keys k 0 % 4294967296 ≡ kind keys k
 unfolding kind
@@ -294,17 +286,27 @@ pub record Reads (c first edge : ℕ) (P : ℕ → ℕ) (ne low high : ℕ) : Ty
   pub low_is : first ≡ low
   pub high_is : first + (P c - P edge) ≡ high
 
-module _ {bs : List Branch} {n : ℕ} {keys : List ℕ} {ne : ℕ} (h : Line bs n) (room : n ≤ length bs) (tr : Tree bs n keys ne) where
-  pub row_inside : {m j : ℕ} → m < ne → j ≡ get_or keys m 0 % 4294967296 → (j ≡ 0 → ⊥) → j < n
-  row_inside {m} {j} l e z = let k = kind_is keys m in omega (arith, (tr.inner m l (omega (arith, z))).0)
+-- the row j hangs at the event m, and first and past are the ends of its events
+pub record Ready (bs : List Branch) (n : ℕ) (keys : List ℕ) (ne m : ℕ) (sums : List ℕ) (j first past : ℕ) : Type 0 where
+  pub inside : j < n
+  pub first_in : first ≤ m
+  pub past_in : past ≤ m
+  pub up : get_or sums first 0 ≤ get_or sums past 0
+  pub small : get_or sums past 0 ≤ get_or sums first 0 + m
+  pub step : ne < length sums → ne ≤ 16384 → Sums bs keys ne (m + 1) (set sums (m + 1) (get_or sums m 0 + (get_or sums past 0 - get_or sums first 0)))
 
-  -- a row hangs at the event m, and first and past are the ends of its events
-  pub record Ready (m : ℕ) (sums : List ℕ) (first past : ℕ) : Type 0 where
-    pub first_in : first ≤ m
-    pub past_in : past ≤ m
-    pub up : get_or sums first 0 ≤ get_or sums past 0
-    pub small : get_or sums past 0 ≤ get_or sums first 0 + m
-    pub step : ne < length sums → ne ≤ 16384 → Sums bs keys ne (m + 1) (set sums (m + 1) (get_or sums m 0 + (get_or sums past 0 - get_or sums first 0)))
+-- the row j hangs at the event k, in the row p, whose first event is `first`
+pub record Turned (bs : List Branch) (n : ℕ) (keys : List ℕ) (ne : ℕ) (sums : List ℕ) (k j p first : ℕ) (firsts : List ℕ) : Type 0 where
+  pub below : p < j
+  pub inside : j < n
+  pub first_in : first ≤ k
+  pub up : get_or sums first 0 ≤ get_or sums k 0
+  pub small : get_or firsts p 0 + (get_or sums k 0 - get_or sums first 0) ≤ ne
+  pub step : n ≤ length firsts → Firsts bs n keys ne k sums (set firsts j (get_or firsts p 0 + (get_or sums k 0 - get_or sums first 0)))
+
+module _ {bs : List Branch} {n : ℕ} {keys : List ℕ} {ne : ℕ} (h : Line bs n) (room : n ≤ length bs) (tr : Tree bs n keys ne) where
+  row_inside : {m j : ℕ} → m < ne → j ≡ get_or keys m 0 % 4294967296 → (j ≡ 0 → ⊥) → j < n
+  row_inside {m} {j} l e z = let k = kind_is keys m in omega (arith, (tr.inner m l (omega (arith, z))).0)
 
   -- a row's events end where those of the row before it begin
   past_edge : (j : ℕ) → 0 < j → j < n → past_of bs keys ne j ≡ first_of bs keys ne (j - 1)
@@ -335,20 +337,23 @@ module _ {bs : List Branch} {n : ℕ} {keys : List ℕ} {ne : ℕ} (h : Line bs 
           (λ q. let y : (branch bs (holder bs n t)).start ≡ (branch bs j).start = ap (λ (x : ℕ). (branch bs x).start) (eqb-true _ _ q) in omega (arith, s.low))
           (λ q. let ne' : holder bs n t ≡ j → ⊥ = eqb-false _ _ q in omega (arith, s.low, h.stairs.apart j (holder bs n t) (omega arith) s.inside, h.stairs.ordered j l)))
 
-  pub ready : {m j first past : ℕ} {sums : List ℕ} → m < ne → Sums bs keys ne m sums → j ≡ get_or keys m 0 % 4294967296 → (j ≡ 0 → ⊥)
-      → first ≡ first_of bs keys ne j → past ≡ first_of bs keys ne (j - 1) → Ready m sums first past
-  ready {m} {j} {first} {past} {sums} l su e z f p =
-      let k : j ≡ kind keys m = e ∙ kind_is keys m in
-      let f' : first ≡ first_of bs keys ne (kind keys m) = f ∙ ap (first_of bs keys ne) k in
-      let p' : past ≡ past_of bs keys ne (kind keys m) = p ∙ (sym (past_edge j (omega (arith, z)) (row_inside l e z)) ∙ ap (past_of bs keys ne) k) in
+  pub ready : {m : ℕ} {sums edges : List ℕ} → m < ne → Sums bs keys ne m sums → Edges bs n keys ne edges → (get_or keys m 0 % 4294967296 ≡ 0 → ⊥)
+      → Ready bs n keys ne m sums (get_or keys m 0 % 4294967296) (get_or edges (get_or keys m 0 % 4294967296) 0) (get_or edges (get_or keys m 0 % 4294967296 - 1) 0)
+  ready {m} {sums} {edges} l su ed z =
+      let j : ℕ = get_or keys m 0 % 4294967296 in
+      let k : j ≡ kind keys m = kind_is keys m in
+      let i : j < n = row_inside l refl z in
+      let f : get_or edges j 0 ≡ first_of bs keys ne (kind keys m) = ed.at j i ∙ ap (first_of bs keys ne) k in
+      let p : get_or edges (j - 1) 0 ≡ past_of bs keys ne (kind keys m) = ed.at (j - 1) (omega arith) ∙ (sym (past_edge j (omega (arith, z)) i) ∙ ap (past_of bs keys ne) k) in
       let z' : 0 < kind keys m = omega (arith, z) in
       let g = hanging h room tr l z' su in
       record {
-        first_in = omega (arith, g.past, g.order);
-        past_in = omega (arith, g.past);
-        up = rw (f', p') g.up;
-        small = rw (f', p') g.small;
-        step = λ a c. rw (f', p') (grown_inner h room tr l su a c z');
+        inside = i;
+        first_in = omega (arith, f, g.past, g.order);
+        past_in = omega (arith, p, g.past);
+        up = rw (f, p) g.up;
+        small = rw (f, p) g.small;
+        step = λ a c. rw (f, p) (grown_inner h room tr l su a c z');
       }
 
   pub next_leaf : {m : ℕ} {sums : List ℕ} → m < ne → Sums bs keys ne m sums → get_or keys m 0 % 4294967296 ≡ 0 → ne < length sums → ne ≤ 16384
@@ -362,23 +367,14 @@ module _ {bs : List Branch} {n : ℕ} {keys : List ℕ} {ne : ℕ} (h : Line bs 
         let fi' : Firsts bs n keys ne (suc (k - 1)) sums firsts = rw (← s) fi in
         firsts_skip h room tr su many fi' (sym (kind_is keys (k - 1)) ∙ e)
 
-    -- the row j hangs at the event before k, in the row p, whose first event is `first`
-    pub record Turned (k j p first : ℕ) (firsts : List ℕ) : Type 0 where
-      pub below : p < j
-      pub inside : j < n
-      pub first_in : first ≤ k - 1
-      pub up : get_or sums first 0 ≤ get_or sums (k - 1) 0
-      pub small : get_or firsts p 0 + (get_or sums (k - 1) 0 - get_or sums first 0) ≤ ne
-      pub step : n ≤ length firsts → Firsts bs n keys ne (k - 1) sums (set firsts j (get_or firsts p 0 + (get_or sums (k - 1) 0 - get_or sums first 0)))
-
-    pub turned : {k j p first : ℕ} {firsts : List ℕ} → 0 < k → k ≤ ne → Firsts bs n keys ne k sums firsts → j ≡ get_or keys (k - 1) 0 % 4294967296 → (j ≡ 0 → ⊥)
-        → Holder bs n (get_or keys (k - 1) 0 / 4294967296) p → first ≡ first_of bs keys ne p → Turned k j p first firsts
-    turned {k} {j} {p} {first} {firsts} l i fi e z s f =
+    pub turned : {k p : ℕ} {edges firsts : List ℕ} → 0 < k → k ≤ ne → Firsts bs n keys ne k sums firsts → Edges bs n keys ne edges → (get_or keys (k - 1) 0 % 4294967296 ≡ 0 → ⊥)
+        → Holder bs n (get_or keys (k - 1) 0 / 4294967296) p → Turned bs n keys ne sums (k - 1) (get_or keys (k - 1) 0 % 4294967296) p (get_or edges p 0) firsts
+    turned {k} {p} {edges} {firsts} l i fi ed z s =
         let q : k ≡ suc (k - 1) = omega arith in
         let fi' : Firsts bs n keys ne (suc (k - 1)) sums firsts = rw (← q) fi in
-        let x : kind keys (k - 1) ≡ j = sym (e ∙ kind_is keys (k - 1)) in
+        let x : kind keys (k - 1) ≡ get_or keys (k - 1) 0 % 4294967296 = sym (kind_is keys (k - 1)) in
         let pe : p ≡ row_of bs n keys (k - 1) = s.here ∙ ap (holder bs n) (when_is keys (k - 1)) in
-        let f' : first_of bs keys ne p ≡ first = sym f in
+        let f : first_of bs keys ne p ≡ get_or edges p 0 = sym (ed.at p s.inside) in
         let z' : 0 < kind keys (k - 1) = omega (arith, z) in
         let g = reading h room tr su many fi' (omega arith) z' p pe in
         let g₂ = seated h room tr (k - 1) (omega arith) in
@@ -386,10 +382,10 @@ module _ {bs : List Branch} {n : ℕ} {keys : List ℕ} {ne : ℕ} (h : Line bs 
         record {
           below = rw x at g.below;
           inside = rw x at g.inside;
-          first_in = rw f' at w;
-          up = rw f' at g.up;
-          small = rw f' at g.small;
-          step = λ a. rw (x, f') at (firsts_step h room tr su many fi' (omega arith) z' p pe a);
+          first_in = rw f at w;
+          up = rw f at g.up;
+          small = rw f at g.small;
+          step = λ a. rw (x, f) at (firsts_step h room tr su many fi' (omega arith) z' p pe a);
         }
 
     -- the span of a moment, as the code has it
@@ -413,19 +409,12 @@ module _ {bs : List Branch} {n : ℕ} {keys : List ℕ} {ne : ℕ} (h : Line bs 
 pub edge_is : (bs : List Branch) (keys : List ℕ) (ne i : ℕ) {c : ℕ} {b : Branch} → b ≡ branch bs i → c ≡ above keys ne (b.end + 1) → c ≡ first_of bs keys ne i
 edge_is bs keys ne i d f = f ∙ (ap (λ (y : Branch). above keys ne (y.end + 1)) d ∙ first_is bs keys ne i)
 
-pub edge_in : (bs : List Branch) (keys : List ℕ) (ne i : ℕ) → first_of bs keys ne i ≤ ne
-unfolding first_of
-edge_in bs keys ne i = above_within keys ne ((branch bs i).end + 1)
-
 -- a table filled from the last row to the first: rows from i on have f
 pub record Edging (f : ℕ → ℕ) (n i : ℕ) (old new : List ℕ) : Type 0 where
   pub within : i ≤ n
   pub done : (k : ℕ) → i ≤ k → k < n → get_or new k 0 ≡ f k
   pub rest : (k : ℕ) → n ≤ k → get_or new k 0 ≡ get_or old k 0
   pub long : length new ≡ length old
-
-pub edging_start : {f : ℕ → ℕ} {n : ℕ} {t : List ℕ} → Edging f n n t t
-edging_start = record { within = omega arith; done = λ k a b. absurd (omega arith); rest = λ k a. refl; long = refl }
 
 pub edging_step : {f : ℕ → ℕ} {n i v : ℕ} {old new : List ℕ} → Edging f n i old new → 0 < i → n ≤ length old → v ≡ f (i - 1) → Edging f n (i - 1) old (set new (i - 1) v)
 edging_step {f} {n} {i} {v} {old} {new} g z l e =
@@ -439,9 +428,6 @@ edging_step {f} {n} {i} {v} {old} {new} g z l e =
       rest = λ k a. get_or-set_other new (i - 1) k v 0 (λ q. omega (arith, g.within)) ∙ g.rest k a;
       long = length-set new (i - 1) v ∙ g.long;
     }
-
-pub edging_end : {f : ℕ → ℕ} {n i : ℕ} {old new : List ℕ} → Edging f n i old new → i ≤ 0 → Filled f n old new
-edging_end g l = record { first = λ k a. g.done k (omega arith) a; rest = g.rest; long = g.long }
 
 -- the moments of a row between two events have one span
 module _ {bs : List Branch} {n : ℕ} {keys : List ℕ} {ne : ℕ} (h : Line bs n) (tr : Tree bs n keys ne) where
@@ -486,18 +472,24 @@ none_ranged z =
     record { order = omega arith; within = omega arith; row_in = z; at_in = omega arith; low = λ t a b. absurd (omega arith); high = λ t a b. absurd (omega arith) }
 
 -- the first and the last moment, as the code has them
+later : (a b : ℕ) → max a b ≡ cond (ltb a b) b a
+later a b = grind (arith, nat_tests)
+
+earlier : (a b : ℕ) → min a b ≡ cond (ltb a b) a b
+earlier a b = grind (arith, nat_tests)
+
 module _ (bs : List Branch) (i : ℕ) (keys : List ℕ) where
-  pub first_of_lem : (ne c : ℕ) {b : Branch} {r : ℕ} → b ≡ branch bs i → c < ne → r ≡ cond (ltb b.start (get_or keys c 0 / 4294967296 + 1)) (get_or keys c 0 / 4294967296 + 1) b.start → r ≡ first_moment bs i keys ne c
+  pub first_of_lem : (ne c : ℕ) {b : Branch} {r : ℕ} → b ≡ branch bs i → c < ne → r ≡ max b.start (get_or keys c 0 / 4294967296 + 1) → r ≡ first_moment bs i keys ne c
   unfolding first_moment when
-  first_of_lem ne c d l e = e ∙ rw (lt-ltb c ne l, d)
+  first_of_lem ne c {b} d l e = e ∙ (later b.start (get_or keys c 0 / 4294967296 + 1) ∙ rw (lt-ltb c ne l, d))
 
   pub first_none : (ne c : ℕ) {b : Branch} → b ≡ branch bs i → ne ≤ c → b.start ≡ first_moment bs i keys ne c
   unfolding first_moment
   first_none ne c d l = rw (le-ltb c ne l) (ap (λ (x : Branch). x.start) d)
 
-  pub last_of : (c : ℕ) {b : Branch} {r : ℕ} → b ≡ branch bs i → 0 < c → r ≡ cond (ltb b.end (get_or keys (c - 1) 0 / 4294967296)) b.end (get_or keys (c - 1) 0 / 4294967296) → r ≡ last_moment bs i keys c
+  pub last_of : (c : ℕ) {b : Branch} {r : ℕ} → b ≡ branch bs i → 0 < c → r ≡ min b.end (get_or keys (c - 1) 0 / 4294967296) → r ≡ last_moment bs i keys c
   unfolding last_moment when
-  last_of c d l e = e ∙ rw (lt-ltb 0 c l, d)
+  last_of c {b} d l e = e ∙ (earlier b.end (get_or keys (c - 1) 0 / 4294967296) ∙ rw (lt-ltb 0 c l, d))
 
   pub last_none : (c : ℕ) {b : Branch} → b ≡ branch bs i → c ≤ 0 → b.end ≡ last_moment bs i keys c
   unfolding last_moment

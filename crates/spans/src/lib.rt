@@ -26,17 +26,7 @@ pub fn above(keys: &[u64], ne: usize, m: u64) -> usize
     requires falling { Falling keys.now ne }
     ensures { result ≡ above keys.now ne m }
 {
-    let mut lo: usize = 0;
-    let mut hi = ne;
-    while lo < hi {
-        let mid = lo + (hi - lo) / 2;
-        if m <= keys[mid] / 4294967296 {
-            lo = mid + 1;
-        } else {
-            hi = mid;
-        }
-    }
-    lo
+    keys[..ne].partition_point(|key| m <= *key / 4294967296)
 }
 
 // Whether the event before c, if there is one, has the moment m or a later one.
@@ -44,10 +34,7 @@ fn reaches(keys: &[u64], m: u64, c: usize) -> bool
     requires { c ≤ length keys.now }
     ensures { result ≡ reaches keys.now m c }
 {
-    if c == 0 {
-        return true;
-    }
-    m <= keys[c - 1] / 4294967296
+    c == 0 || m <= keys[c - 1] / 4294967296
 }
 
 // Whether c is how many of ne events have the moment m or a later one.
@@ -56,11 +43,8 @@ pub fn is_above(keys: &[u64], ne: usize, m: u64, c: usize) -> bool
     requires falling { Falling keys.now ne }
     ensures { result ≡ eqb c (above keys.now ne m) }
 {
-    if c < ne {
-        if m <= keys[c] / 4294967296 {
-            return false;
-        }
-        return reaches(keys, m, c);
+    if c < ne && m <= keys[c] / 4294967296 {
+        return false;
     }
     reaches(keys, m, c)
 }
@@ -74,10 +58,8 @@ pub fn above_near(keys: &[u64], ne: usize, m: u64, c: usize) -> usize
     if is_above(keys, ne, m, c) {
         return c;
     }
-    if c < ne {
-        if is_above(keys, ne, m, c + 1) {
-            return c + 1;
-        }
+    if c < ne && is_above(keys, ne, m, c + 1) {
+        return c + 1;
     }
     above(keys, ne, m)
 }
@@ -89,9 +71,7 @@ pub fn edge_rows(bt: &[u32], n: usize, keys: &[u64], ne: usize, edges: &mut [u32
     ensures { Filled (first_of (branch_rows_of bt.now) keys.now ne) n edges.old edges.new }
 {
     let mut c: usize = 0;
-    let mut i = n;
-    while 0 < i {
-        i -= 1;
+    for i in (0..n).rev() {
         let b = rows::branch_at(bt, i);
         c = above_near(keys, ne, b.end as u64 + 1, c);
         edges[i] = c as u32;
@@ -109,18 +89,15 @@ pub fn sum_up(bt: &[u32], n: usize, keys: &[u64], ne: usize, edges: &[u32], sums
     ensures rest { Rest (ne + 1) sums.old sums.new }
 {
     sums[0] = 0;
-    let mut k: usize = 0;
-    while k < ne {
+    for k in 0..ne {
         let j = (keys[k] % 4294967296) as usize;
         if j == 0 {
             sums[k + 1] = sums[k] + 1;
-            k += 1;
             continue;
         }
         let first = edges[j] as usize;
         let past = edges[j - 1] as usize;
         sums[k + 1] = sums[k] + (sums[past] - sums[first]);
-        k += 1;
     }
 }
 
@@ -144,9 +121,7 @@ pub fn number_rows(
 {
     firsts[0] = 0;
     let mut p: usize = 0;
-    let mut k = ne;
-    while 0 < k {
-        k -= 1;
+    for k in (0..ne).rev() {
         let j = (keys[k] % 4294967296) as usize;
         if j == 0 {
             continue;
@@ -164,7 +139,7 @@ fn first_moment(bt: &[u32], i: usize, keys: &[u64], ne: usize, c: usize) -> u64
 {
     let b = rows::branch_at(bt, i);
     if c < ne {
-        return later(b.start as u64, keys[c] / 4294967296 + 1);
+        return (b.start as u64).max(keys[c] / 4294967296 + 1);
     }
     b.start as u64
 }
@@ -176,22 +151,9 @@ fn last_moment(bt: &[u32], i: usize, keys: &[u64], c: usize) -> u64
 {
     let b = rows::branch_at(bt, i);
     if 0 < c {
-        return earlier(b.end as u64, keys[c - 1] / 4294967296);
+        return (b.end as u64).min(keys[c - 1] / 4294967296);
     }
     b.end as u64
-}
-
-// The later and the earlier of two moments.
-fn later(a: u64, b: u64) -> u64
-    ensures { result ≡ cond (ltb a b) b a }
-{
-    if a < b { b } else { a }
-}
-
-fn earlier(a: u64, b: u64) -> u64
-    ensures { result ≡ cond (ltb a b) a b }
-{
-    if a < b { a } else { b }
 }
 
 // A span that no moment has.
@@ -231,10 +193,7 @@ pub fn span_near(
     ensures { Spanned (branch_rows_of bt.now) n keys.now ne sums.now firsts.now m result }
 {
     let t = m as u64;
-    if t < s.from {
-        return span_of(bt, n, keys, ne, edges, sums, firsts, m, s.row, s.at);
-    }
-    if s.to < t {
+    if t < s.from || s.to < t {
         return span_of(bt, n, keys, ne, edges, sums, firsts, m, s.row, s.at);
     }
     s
@@ -267,7 +226,7 @@ pub fn span_of(
     let lo = firsts[i] as usize;
     let first = edges[i] as usize;
     Span {
-        lo: lo,
+        lo,
         hi: lo + (sums[c] - sums[first]) as usize,
         row: i,
         at: c,

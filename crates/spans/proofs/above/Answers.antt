@@ -1,12 +1,12 @@
-use native.Mathlib.Omega.{arith}
-use Rattle.spans.proofs.Framing.{above_within, search_up, search_down}
+-- The search asks a test that the keys pass up to where they fall below the moment.
+use Rattle.std.proofs.Common.{rules, leb, ◌/◌}
+use Rattle.std.proofs.lemmas.List.Sorted.{IsPartitionPoint-from_clause}
+use Rattle.spans.proofs.Framing.{above_parted, above_point}
 use Rattle.spans.proofs.above.Goals as goal
 
-pub loop-lo-init : goal.loop-lo-init
-loop-lo-init c = (omega arith, above_within c.args.keys.now c.args.ne c.args.m, omega arith)
-
-pub loop-lo-preserved-then-m-keys : goal.loop-lo-preserved-then-m-keys
-loop-lo-preserved-then-m-keys c = (search_up c.args.keys.now c.args.ne c.args.m _ (omega arith) c.if-m-keys.true, c.loop-lo.invariant.1, c.loop-lo.invariant.2)
-
-pub loop-lo-preserved : goal.loop-lo-preserved
-loop-lo-preserved c = (c.loop-lo.invariant.0, search_down c.requires.falling c.args.m _ c.if-m-keys.false, omega arith)
+pub returns : goal.returns
+returns c =
+    let f = c.requires.falling in
+    let within = c.requires.ne_in_bounds in
+    let point = IsPartitionPoint-from_clause (λ key. leb c.args.m (key / 4294967296)) _ _ c.partition_point.ensures.partitioned (above_parted f within c.args.m) (λ a r q k. search rules) in
+    above_point f within c.args.m c.partition_point.ensures.bound point

@@ -7,6 +7,3 @@ use Rattle.spans.proofs.edge_rows.Given as goal
 -- `spans::edge_rows` meets its contract: newest to oldest, each edge near the one before it.
 abbrev pub invariant-loop-i : goal.invariant-loop-i
 invariant-loop-i l = (l.c ≤ l.ne) × Edging (first_of (branch_rows_of l.bt) l.keys l.ne) l.n l.i l.initial.edges l.edges
-
-abbrev pub decreases-loop-i : goal.decreases-loop-i
-decreases-loop-i l = l.i
