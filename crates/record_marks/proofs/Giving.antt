@@ -6,7 +6,7 @@ use mathlib.Core.Bool.{true, cond}
 use Prim.Native.Nat.{ℕ, zero, suc, ◌+◌, ◌-◌, ◌≤◌, ◌<◌}
 use native.Mathlib.Omega.{arith}
 use lib.Dec.{ltb, eqb}
-use lib.ListN.{length, set, take, get_or-eq_default}
+use lib.ListN.{length, set, take}
 use borrow.Author.Tests.{ltb-true, ltb-false, eqb-true, eqb-false, eq-eqb, le-leb, lt-leb}
 use Rattle.model.specs.declared.Branch.{Branch}
 use Rattle.model.specs.declared.Record.{Record}
@@ -14,14 +14,14 @@ use Rattle.model.specs.Store.{any, ◌∈◌}
 use Rattle.model.specs.Lookup.{is_at}
 use Rattle.model.proofs.Base.{case, any_mem, mem_any}
 use Rattle.model.specs.ByNumber.{find, entry, newest_of, Line, Ascend}
-use Rattle.branch_marks.specs.Marks.{bit, Zeros, Placed}
+use Rattle.branch_marks.specs.Marks.{bit, Placed}
 use Rattle.spans.specs.Reach.{reach}
 use Rattle.spans.specs.Order.{when, kind, Tree, Leaves, Sums, Firsts, Numbered}
 use Rattle.spans.proofs.Reaching.{reach_trans, reach_line}
 use Rattle.spans.proofs.Seeing.{Gives, gives→, →gives}
 use Rattle.spans.proofs.Framing.{numbered}
-use Rattle.record_marks.specs.Marks.{address_of, low_of, high_of, spans_laid, given_row, GivenBy, Stopped, Onward, Blank}
-use Rattle.record_marks.proofs.Hopping.{Rows, Hops, Told, yes_told, no_told, Marking, free_at, full_at, onward, hops_set, hops_keep, marking_step}
+use Rattle.record_marks.specs.Marks.{address_of, low_of, high_of, spans_laid, given_row, GivenBy, Stopped}
+use Rattle.record_marks.proofs.Hopping.{Rows, Hops, Told, yes_told, no_told, Marking, free_at, full_at, hops_set, hops_keep, marking_step}
 
 -- the leaves among the events
 leaf_list : List ℕ → ℕ → List ℕ
@@ -136,9 +136,6 @@ module _ {A L H : ℕ → ℕ} {nr k : ℕ} {owner jump : List ℕ} (h : Rows A 
   before : Hops A L H nr (suc (k - 1)) owner jump
   before = let e : k ≡ suc (k - 1) = omega arith in rw (← e) hs
 
-  pub turn_onward : {a : ℕ} → a ≡ A (k - 1) + 1 → Onward owner jump a
-  turn_onward e = rw e (onward h before (omega arith))
-
   module _ {old new : List ℕ} (m : Marking A L H nr k old new) (room : nr ≤ length old) where
     marks_before : Marking A L H nr (suc (k - 1)) old new
     marks_before = let e : k ≡ suc (k - 1) = omega arith in rw (← e) m
@@ -153,17 +150,6 @@ module _ {A L H : ℕ → ℕ} {nr k : ℕ} {owner jump : List ℕ} (h : Rows A 
         let w' : v ≡ bit (ltb r (H (k - 1))) = rw e at w in
         (rw (b, d, e) (hops_set h before (omega arith) (omega arith) (omega arith) (omega arith)), marking_step marks_before (omega arith) room (told_by h before (omega arith) s' w'))
 
--- a table of zeros has no other number
-pub blank_of : {n : ℕ} {t : List ℕ} → Zeros n t → Blank t
-blank_of {n} {t} z =
-    record {
-      zero =
-          λ k.
-          case (ltb k n)
-          (λ d. z.zero k (ltb-true k n d))
-          (λ d. get_or-eq_default t 0 (omega (arith, z.long, ltb-false k n d)));
-    }
-
 -- what a turn lays, at the row before k
 pub record Laying (L H v : ℕ → ℕ) (nr k : ℕ) (old new : List ℕ) : Type 0 where
   pub is : new ≡ spans_laid L H v nr (nr - k) old
@@ -171,9 +157,6 @@ pub record Laying (L H v : ℕ → ℕ) (nr k : ℕ) (old new : List ℕ) : Type
 pub laying_start : {L H v : ℕ → ℕ} {nr : ℕ} {t : List ℕ} → Laying L H v nr nr t t
 unfolding spans_laid
 laying_start {nr = nr} = let e : nr - nr ≡ 0 = omega arith in record { is = rw e }
-
-pub laying_end : {L H v : ℕ → ℕ} {nr k : ℕ} {old new : List ℕ} → Laying L H v nr k old new → k ≤ 0 → new ≡ spans_laid L H v nr nr old
-laying_end {L} {H} {v} {nr} {k} {old} g l = let e : nr - k ≡ nr = omega arith in g.is ∙ ap (λ (d : ℕ). spans_laid L H v nr d old) e
 
 module _ {L H v : ℕ → ℕ} {nr k : ℕ} {old new : List ℕ} (g : Laying L H v nr k old new) (z : 0 < k) (i : k ≤ nr) where
   steps : nr - (k - 1) ≡ suc (nr - k)

@@ -1,21 +1,24 @@
 -- The table of spans taken, as owners and ends of spans.
 use mathlib.Core.Path.{◌≡◌, refl, ap, sym, ◌∙◌}
+use mathlib.Core.Bool.{Bool, true, false}
 use mathlib.Core.List.{List, [], ◌∷◌, map}
 use Prim.Native.Nat.{ℕ, zero, suc, ◌+◌, ◌-◌, ◌*◌, ◌/◌, ◌%◌, ◌≤◌, ◌<◌}
 use native.Mathlib.Omega.{arith}
-use lib.Dec.{ltb, eqb}
+use lib.Dec.{ltb}
 use lib.ListN.{length, get_or, set, get_or-map}
-use borrow.Author.Tests.{ltb-true, ltb-false, eq-eqb, ne_eqb}
+use mir.Val.{bool_byte}
+use borrow.Author.Tests.{ne_eqb}
 use Rattle.model.specs.declared.Branch.{Branch}
 use Rattle.model.specs.declared.Record.{Record}
-use Rattle.model.proofs.Base.{case}
-use Rattle.branch_marks.specs.Marks.{bit, Filled, Rest}
+use Rattle.model.specs.ByNumber.{entry, Line, Ascend}
+use Rattle.branch_marks.specs.Marks.{bit, Filled, Rest, Placed}
 use Rattle.events.specs.Keys.{Listed}
-use Rattle.spans.specs.Order.{first_of, Sums, Firsts}
+use Rattle.spans.specs.declared.Span.{Span}
+use Rattle.spans.specs.Order.{first_of, span_low, span_high, Tree, Sums, Firsts, Spanned}
 use Rattle.sorting.specs.Sorted.{Roomed}
-use Rattle.record_marks.specs.Marks.{taken_number, owner_of, end_of, owners_in, ends_in, Blank, Stopped, Taken, Worked}
-use Rattle.record_marks.proofs.Hopping.{Rows, Hops, Marking}
-use Rattle.record_marks.proofs.Giving.{turn_mark}
+use Rattle.record_marks.specs.Marks.{address_of, low_of, high_of, taken_number, owner_of, end_of, owners_in, ends_in, Blank, GivenBy, Stopped, Taken, Worked}
+use Rattle.record_marks.proofs.Hopping.{Rows, Hops, Marking, hops_start, marking_start}
+use Rattle.record_marks.proofs.Giving.{span_rows, all_given, turn_none, turn_mark, Laying, laying_start, laying_skip, laying_put}
 
 owner_at : (t : List ℕ) (p : ℕ) → get_or (owners_in t) p 0 ≡ owner_of (get_or t p 0)
 owner_at t p = get_or-map owner_of t p 0
@@ -24,35 +27,11 @@ pub end_at : (t : List ℕ) (p : ℕ) → get_or t p 0 % 4294967296 ≡ get_or (
 end_at t p = sym (get_or-map end_of t p 0)
 
 -- who owns a number
-pub not_owner : (t : List ℕ) (p a : ℕ) → (get_or t p 0 / 4294967296 ≡ a → ⊥) → get_or (owners_in t) p 0 ≡ a + 1 → ⊥
-not_owner t p a z e =
-    let e' : owner_of (get_or t p 0) ≡ a + 1 = sym (owner_at t p) ∙ e in
-    case (eqb (get_or t p 0 % 4294967296) 0)
-    (λ d. let q : 0 ≡ a + 1 = rw d at e' in omega arith)
-    (λ d. let q : get_or t p 0 / 4294967296 + 1 ≡ a + 1 = rw d at e' in z (omega arith))
-
-pub no_owner : (t : List ℕ) (p a : ℕ) → get_or t p 0 % 4294967296 ≡ 0 → get_or (owners_in t) p 0 ≡ a + 1 → ⊥
-no_owner t p a z e =
-    let e' : owner_of (get_or t p 0) ≡ a + 1 = sym (owner_at t p) ∙ e in
-    let q : 0 ≡ a + 1 = rw (eq-eqb (get_or t p 0 % 4294967296) 0 z) at e' in
-    omega arith
-
 pub is_owner : (t : List ℕ) (p a : ℕ) → get_or t p 0 / 4294967296 ≡ a → (get_or t p 0 % 4294967296 ≡ 0 → ⊥) → get_or (owners_in t) p 0 ≡ a + 1
 is_owner t p a e z = owner_at t p ∙ rw (ne_eqb (get_or t p 0 % 4294967296) 0 z, e)
 
 pub blank_owners : {t : List ℕ} → Blank t → Blank (owners_in t)
 blank_owners {t} b = record { zero = λ k. owner_at t k ∙ ap owner_of (b.zero k) }
-
--- the room of a sort, cleared: past the sorted numbers it was zeros all the time
-pub blank_room : {ne : ℕ} {a t u w : List ℕ} → Blank t → Roomed 0 ne a t u → Filled (λ _. 0) ne u w → Blank w
-blank_room {ne} z r f =
-    record {
-      zero =
-          λ k.
-          case (ltb k ne)
-          (λ d. f.first k (ltb-true k ne d))
-          (λ d. let l = ltb-false k ne d in f.rest k l ∙ (r.above k l ∙ z.zero k));
-    }
 
 -- the rooms after the marks
 pub worked : {bs : List Branch} {n : ℕ} {wanted : List ℕ} {rs : List Record} {nr ne : ℕ} {keys₀ keys room₀ mid low room sums₀ sums edges₀ edges firsts₀ firsts : List ℕ}
@@ -89,3 +68,51 @@ pub turn_take : {A L H : ℕ → ℕ} {nr k : ℕ} (t : List ℕ) → Rows A L H
 turn_take t h z i hs m room {x} {lo} {hi} {r} {v} b d e l w y s u =
     rw (map_set owner_of t lo (taken_number x hi), map_set end_of t lo (taken_number x hi), owner_number x hi (omega arith) w, end_number x hi w)
     (turn_mark h z i hs m room (ap (λ (q : ℕ). q + 1) b) d e l (rw (length-map owner_of t) y) (rw (length-map end_of t) y) s u)
+
+-- a test as a byte, as the code has it
+as_byte : (b : Bool) → bool_byte b ≡ bit b
+as_byte true = refl
+as_byte false = refl
+
+-- the spans taken and the bytes, with the rows from k on
+pub record Turning (bs : List Branch) (n : ℕ) (keys : List ℕ) (ne : ℕ) (sums firsts : List ℕ) (rs : List Record) (nr k : ℕ) (taken₀ taken marks₀ marks : List ℕ) : Type 0 where
+  pub hops : Hops (address_of rs) (low_of bs n firsts rs) (high_of bs n keys ne sums firsts rs) nr k (owners_in taken) (ends_in taken)
+  pub told : Marking (address_of rs) (low_of bs n firsts rs) (high_of bs n keys ne sums firsts rs) nr k marks₀ marks
+  pub laid : Laying (low_of bs n firsts rs) (high_of bs n keys ne sums firsts rs) (λ q. taken_number (address_of rs q) (high_of bs n keys ne sums firsts rs q)) nr k taken₀ taken
+
+pub turning_start : {bs : List Branch} {n : ℕ} {keys : List ℕ} {ne : ℕ} {sums firsts : List ℕ} {rs : List Record} {nr : ℕ} {taken marks : List ℕ} → Blank taken
+    → Turning bs n keys ne sums firsts rs nr nr taken taken marks marks
+turning_start b = record { hops = hops_start (blank_owners b); told = marking_start; laid = laying_start }
+
+module _ {bs : List Branch} {n : ℕ} {rs : List Record} {nr : ℕ} {keys : List ℕ} {ne : ℕ} {sums firsts : List ℕ} (h : Line bs n) (room : n ≤ length bs) (up : Ascend rs nr) (rows : nr ≤ length rs)
+    (pl : Placed bs n rs nr) (tr : Tree bs n keys ne) (su : Sums bs keys ne ne sums) (fi : Firsts bs n keys ne 0 sums firsts) where
+  table : Rows (address_of rs) (low_of bs n firsts rs) (high_of bs n keys ne sums firsts rs) nr
+  table = span_rows h room up rows pl tr su fi
+
+  pub turning_end : {k : ℕ} {taken₀ taken marks₀ marks : List ℕ} → Turning bs n keys ne sums firsts rs nr k taken₀ taken marks₀ marks → k ≤ 0 → GivenBy bs n rs nr keys ne marks₀ marks
+  turning_end {k} t l = let e : k ≡ 0 = omega arith in all_given h room up rows pl tr su fi (rw e at t.told)
+
+  -- the row before k, whose record is r with the span s
+  module _ {k : ℕ} {taken₀ taken marks₀ marks : List ℕ} (t : Turning bs n keys ne sums firsts rs nr k taken₀ taken marks₀ marks) (z : 0 < k) (i : k ≤ nr) (long : nr ≤ length marks₀) {r : Record} {s : Span}
+      (e : r ≡ entry rs (k - 1)) (sp : Spanned bs n keys ne sums firsts r.moment s) where
+    low_is : s.lo ≡ low_of bs n firsts rs (k - 1)
+    low_is = sp.low ∙ ap (λ (x : Record). span_low bs n firsts x.moment) e
+
+    high_is : s.hi ≡ high_of bs n keys ne sums firsts rs (k - 1)
+    high_is = sp.high ∙ ap (λ (x : Record). span_high bs n keys ne sums firsts x.moment) e
+
+    pub turning_skip : s.hi ≤ s.lo → Turning bs n keys ne sums firsts rs nr (k - 1) taken₀ taken marks₀ (set marks (k - 1) 0)
+    turning_skip o =
+        let u = turn_none table z i t.hops t.told long low_is high_is o in
+        record { hops = u.0; told = u.1; laid = laying_skip t.laid z i low_is high_is o }
+
+    pub turning_take : {p : ℕ} → s.lo < s.hi → s.hi < 4294967296 → s.lo < length taken → Stopped (owners_in taken) (ends_in taken) (r.address + 1) s.lo s.hi p
+        → Turning bs n keys ne sums firsts rs nr (k - 1) taken₀ (set taken s.lo (taken_number r.address s.hi)) marks₀ (set marks (k - 1) (bool_byte (ltb p s.hi)))
+    turning_take {p} o w y st =
+        let a : r.address ≡ address_of rs (k - 1) = ap (λ (x : Record). x.address) e in
+        let m = turn_take taken table z i t.hops t.told long a low_is high_is o w y st (as_byte (ltb p s.hi)) in
+        record {
+          hops = m.0;
+          told = m.1;
+          laid = laying_put t.laid z i low_is high_is o (ap (λ (x : ℕ). taken_number x s.hi) a ∙ ap (taken_number (address_of rs (k - 1))) high_is);
+        }

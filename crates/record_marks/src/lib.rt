@@ -1,10 +1,10 @@
 // A byte for each record: 1 where a lookup at one of a list of moments gives it.
 #![tactic(auto)]
 
-ghost use Rattle.std.specs.Prelude.{◌≡◌, true, ltb, ◌+◌, ◌≤◌, ◌<◌, length};
+ghost use Rattle.std.specs.Prelude.{◌≡◌, ◌+◌, ◌≤◌, ◌<◌, length};
 ghost use Rattle.rows.specs.Rows.{branch_rows_of, record_rows_of, BranchesIn, RecordsIn};
 ghost use Rattle.model.specs.ByNumber.{Line, Ascend};
-ghost use Rattle.branch_marks.specs.Marks.{bit, Held, Placed, Zeros, Filled};
+ghost use Rattle.branch_marks.specs.Marks.{Held, Placed, Filled};
 ghost use Rattle.spans.specs.Order.{Tree, Edges, Sums, Firsts};
 ghost use Rattle.record_marks.specs.Marks.{Blank, owners_in, ends_in, GivenBy, Taken, Worked, Stopped, Onward, given_row};
 
@@ -14,6 +14,7 @@ pub fn hop(taken: &[u64], a: u32, lo: usize, hi: usize) -> usize
     requires onward { Onward (owners_in taken.now) (ends_in taken.now) (a + 1) }
     ensures { Stopped (owners_in taken.now) (ends_in taken.now) (a + 1) lo hi result }
 {
+    // Kept: a while is the plainer loop here, since p jumps to the end of each span: it counts over no range.
     let mut p = lo;
     while p < hi {
         let v = taken[p];
@@ -26,16 +27,6 @@ pub fn hop(taken: &[u64], a: u32, lo: usize, hi: usize) -> usize
         p = (v % 4294967296) as usize;
     }
     p
-}
-
-// 1 where p is below hi.
-fn below(p: usize, hi: usize) -> u8
-    ensures { result ≡ bit (ltb p hi) }
-{
-    if p < hi {
-        return 1;
-    }
-    0
 }
 
 // The bytes of nr records, from the last to the first. At a number where a span of the address begins, taken has the address and the end of the longest such span.
@@ -65,9 +56,7 @@ pub fn mark_rows(
     ensures taken { Taken (branch_rows_of bt.now) n keys.now ne sums.now firsts.now (record_rows_of rt.now) nr taken.old taken.new }
 {
     let mut s = spans::no_span();
-    let mut k = nr;
-    while 0 < k {
-        k -= 1;
+    for k in (0..nr).rev() {
         let r = rows::record_at(rt, k);
         s = spans::span_near(bt, n, keys, ne, edges, sums, firsts, r.moment, s);
         let lo = s.lo;
@@ -78,7 +67,7 @@ pub fn mark_rows(
         }
         let p = hop(taken, r.address, lo, hi);
         taken[lo] = r.address as u64 * 4294967296 + hi as u64;
-        marks[k] = below(p, hi);
+        marks[k] = (p < hi) as u8;
     }
 }
 
@@ -87,11 +76,7 @@ fn clear(t: &mut [u64], n: usize)
     requires { n ≤ length t.old }
     ensures { Filled (λ _. 0) n t.old t.new }
 {
-    let mut k: usize = 0;
-    while k < n {
-        t[k] = 0;
-        k += 1;
-    }
+    t[..n].fill(0);
 }
 
 // The bytes of nr records in rooms that are lent: keys and sums of the events, edges and first numbers of the rows. The room of the sort, zeros at first,
@@ -126,81 +111,29 @@ fn mark_with(
     mark_rows(bt, n, keys, ne, edges, sums, firsts, rt, nr, room, marks);
 }
 
-// Rooms for 256 branches and 289 moments: 544 events.
-fn few_keys() -> [u64; 544]
-    ensures { Zeros 544 result }
-{
-    [0u64; 544]
-}
-
-fn few_sums() -> [u32; 545]
-    ensures { Zeros 545 result }
-{
-    [0u32; 545]
-}
-
-fn few_rows() -> [u32; 256]
-    ensures { Zeros 256 result }
-{
-    [0u32; 256]
-}
-
-// The bytes of nr records, where branches and moments are few: rooms of 13 KB.
-fn mark_few(bt: &[u32], n: usize, wanted: &[u32], rt: &[u32], nr: usize, marks: &mut [u8])
-    requires branches_in { BranchesIn n bt.now × (n ≤ 256) × (0 < n) × (length wanted.now ≤ 289) × RecordsIn nr rt.now × (nr ≤ length marks.old) }
+// The bytes of nr records, in rooms for EVENTS events and ROWS rows; SUMS is one more than EVENTS.
+#[inline(never)]
+fn mark_in<const EVENTS: usize, const SUMS: usize, const ROWS: usize>(
+    bt: &[u32],
+    n: usize,
+    wanted: &[u32],
+    rt: &[u32],
+    nr: usize,
+    marks: &mut [u8],
+)
+    requires rooms { (EVENTS ≤ 16384) × (SUMS ≡ EVENTS + 1) × (ROWS ≤ 4096) }
+    requires branches_in { BranchesIn n bt.now × (n ≤ ROWS) × (0 < n) × (length wanted.now ≤ 8192) × (length wanted.now + n ≤ EVENTS + 1) × RecordsIn nr rt.now × (nr ≤ length marks.old) }
     requires line { Line (branch_rows_of bt.now) n }
     requires held { Held (branch_rows_of bt.now) n wanted.now }
     requires ascend { Ascend (record_rows_of rt.now) nr }
     requires placed { Placed (branch_rows_of bt.now) n (record_rows_of rt.now) nr }
     ensures { Filled (given_row (branch_rows_of bt.now) n (record_rows_of rt.now) nr wanted.now) nr marks.old marks.new }
 {
-    let mut keys = few_keys();
-    let mut room = few_keys();
-    let mut sums = few_sums();
-    let mut edges = few_rows();
-    let mut firsts = few_rows();
-    mark_with(
-        bt,
-        n,
-        wanted,
-        rt,
-        nr,
-        &mut keys,
-        &mut room,
-        &mut sums,
-        &mut edges,
-        &mut firsts,
-        marks,
-    );
-}
-
-// Rooms for 4,096 branches and 4,129 moments: 8,224 events.
-fn most_keys() -> [u64; 8224]
-    ensures { Zeros 8224 result }
-{
-    [0u64; 8224]
-}
-
-fn most_sums() -> [u32; 8225]
-    ensures { Zeros 8225 result }
-{
-    [0u32; 8225]
-}
-
-// The bytes of nr records, where branches or moments are many: rooms of 197 KB.
-fn mark_many(bt: &[u32], n: usize, wanted: &[u32], rt: &[u32], nr: usize, marks: &mut [u8])
-    requires branches_in { BranchesIn n bt.now × (n ≤ 4096) × (0 < n) × (length wanted.now ≤ 4129) × RecordsIn nr rt.now × (nr ≤ length marks.old) }
-    requires line { Line (branch_rows_of bt.now) n }
-    requires held { Held (branch_rows_of bt.now) n wanted.now }
-    requires ascend { Ascend (record_rows_of rt.now) nr }
-    requires placed { Placed (branch_rows_of bt.now) n (record_rows_of rt.now) nr }
-    ensures { Filled (given_row (branch_rows_of bt.now) n (record_rows_of rt.now) nr wanted.now) nr marks.old marks.new }
-{
-    let mut keys = most_keys();
-    let mut room = most_keys();
-    let mut sums = most_sums();
-    let mut edges = branch_marks::numbers();
-    let mut firsts = branch_marks::numbers();
+    let mut keys = [0u64; EVENTS];
+    let mut room = [0u64; EVENTS];
+    let mut sums = [0u32; SUMS];
+    let mut edges = [0u32; ROWS];
+    let mut firsts = [0u32; ROWS];
     mark_with(
         bt,
         n,
@@ -225,13 +158,9 @@ pub fn mark_records(bt: &[u32], n: usize, wanted: &[u32], rt: &[u32], nr: usize,
     requires placed { Placed (branch_rows_of bt.now) n (record_rows_of rt.now) nr }
     ensures { Filled (given_row (branch_rows_of bt.now) n (record_rows_of rt.now) nr wanted.now) nr marks.old marks.new }
 {
-    if n <= 256 {
-        if wanted.len() <= 289 {
-            mark_few(bt, n, wanted, rt, nr, marks);
-            return;
-        }
-        mark_many(bt, n, wanted, rt, nr, marks);
-        return;
+    if n <= 256 && wanted.len() <= 289 {
+        mark_in::<544, 545, 256>(bt, n, wanted, rt, nr, marks);
+    } else {
+        mark_in::<8224, 8225, 4096>(bt, n, wanted, rt, nr, marks);
     }
-    mark_many(bt, n, wanted, rt, nr, marks);
 }

@@ -1,6 +1,0 @@
-use Prim.Native.Nat.{ℕ}
-use lib.ListN.{length-replicate, get_or-replicate}
-use Rattle.record_marks.proofs.few_rows.Goals as goal
-
-pub returns : goal.returns
-returns c = record { long = length-replicate {A = ℕ} 256 0; zero = λ k l. get_or-replicate {A = ℕ} 256 k 0 0 l }
