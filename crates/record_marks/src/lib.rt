@@ -111,7 +111,7 @@ fn mark_with(
     mark_rows(bt, n, keys, ne, edges, sums, firsts, rt, nr, room, marks);
 }
 
-// The bytes of nr records, in rooms for EVENTS events and ROWS rows; SUMS is one more than EVENTS.
+// The bytes of nr records, in rooms for EVENTS events and ROWS rows; SUMS is one more than EVENTS. Not inlined, so that few rows take no stack for many.
 #[inline(never)]
 fn mark_in<const EVENTS: usize, const SUMS: usize, const ROWS: usize>(
     bt: &[u32],
