@@ -11,12 +11,10 @@ use borrow.Author.Tests.{ne_eqb}
 use Rattle.model.specs.declared.Branch.{Branch}
 use Rattle.model.specs.declared.Record.{Record}
 use Rattle.model.specs.ByNumber.{entry, Line, Ascend}
-use Rattle.branch_marks.specs.Marks.{bit, Filled, Rest, Placed}
-use Rattle.events.specs.Keys.{Listed}
+use Rattle.branch_marks.specs.Marks.{bit, Placed}
 use Rattle.spans.specs.declared.Span.{Span}
-use Rattle.spans.specs.Order.{first_of, span_low, span_high, Tree, Sums, Firsts, Spanned}
-use Rattle.sorting.specs.Sorted.{Roomed}
-use Rattle.record_marks.specs.Marks.{address_of, low_of, high_of, taken_number, owner_of, end_of, owners_in, ends_in, Blank, GivenBy, Stopped, Taken, Worked}
+use Rattle.spans.specs.Order.{span_low, span_high, Tree, Sums, Firsts, Spanned}
+use Rattle.record_marks.specs.Marks.{address_of, low_of, high_of, taken_number, owner_of, end_of, owners_in, ends_in, Blank, GivenBy, Stopped}
 use Rattle.record_marks.proofs.Hopping.{Rows, Hops, Marking, hops_start, marking_start}
 use Rattle.record_marks.proofs.Giving.{span_rows, all_given, turn_none, turn_mark, Laying, laying_start, laying_skip, laying_put}
 
@@ -32,14 +30,6 @@ is_owner t p a e z = owner_at t p ∙ rw (ne_eqb (get_or t p 0 % 4294967296) 0 z
 
 pub blank_owners : {t : List ℕ} → Blank t → Blank (owners_in t)
 blank_owners {t} b = record { zero = λ k. owner_at t k ∙ ap owner_of (b.zero k) }
-
--- the rooms after the marks
-pub worked : {bs : List Branch} {n : ℕ} {wanted : List ℕ} {rs : List Record} {nr ne : ℕ} {keys₀ keys room₀ mid low room sums₀ sums edges₀ edges firsts₀ firsts : List ℕ}
-    → Listed bs n wanted ne keys₀ keys → Filled (first_of bs keys ne) n edges₀ edges → Sums bs keys ne ne sums → Rest (ne + 1) sums₀ sums
-    → Firsts bs n keys ne 0 sums firsts → Rest n firsts₀ firsts → Roomed 0 ne keys room₀ mid → Filled (λ _. 0) ne mid low → Taken bs n keys ne sums firsts rs nr low room
-    → Worked bs n wanted rs nr keys₀ keys room₀ room sums₀ sums edges₀ edges firsts₀ firsts
-worked {ne = ne} {mid = mid} {low = low} l e s r f q o c t =
-    record { ne = ne; sorted = mid; cleared = low; listed = l; edged = e; summed = (s, r); numbered = (f, q); roomed = (o, c); taken = t }
 
 -- a number stored
 map_set : (f : ℕ → ℕ) (t : List ℕ) (i v : ℕ) → map f (set t i v) ≡ set (map f t) i (f v)
