@@ -5,32 +5,27 @@ use mathlib.Core.List.{List}
 use mathlib.Core.Option.{some}
 use mathlib.Core.Bool.{Bool, true, false, not}
 use native.Mathlib.Omega.{arith}
-use lib.Dec.{eqb}
 use lib.ListN.{length, get_or, take, drop}
 use lib.Seq.{get_or-take, length-take-le}
 use borrow.Author.Tests.{le-leb, lt-leb}
 use Rattle.model.specs.declared.Head.{Head}
 use Rattle.model.specs.declared.Name.{Name}
-use Rattle.model.specs.Store.{names, moments, is_called, called, without, any, zero_name}
-use Rattle.model.specs.Lookup.{is_readable, readable}
+use Rattle.model.specs.Store.{names, is_called, called, without, any, zero_name}
+use Rattle.model.specs.Lookup.{readable}
 use Rattle.model.specs.Wire.{give, withdraw}
 use Rattle.model.specs.Step.{do_give, do_withdraw, step}
 use Rattle.model.specs.ByNumber.{Sound}
-use Rattle.model.proofs.Base.{length_keep, readable_above}
+use Rattle.model.proofs.Base.{length_keep}
 use Rattle.rows.specs.declared.Outcome.{Outcome}
 use Rattle.rows.specs.Rows.{name_rows_of, NameSet, NamesIn, NamesLaid}
 use Rattle.rows.specs.View.{Tables, with_names, store_of, record_given, Carried, refused_with, accepted_with}
 use Rattle.rows.proofs.Laws.{branch_kind, record_kind, name_kind, name_count}
-use Rattle.rows.proofs.Relaid.{laid_own, laid_rows, set_rows, set_own}
+use Rattle.rows.proofs.Relaid.{laid_own, laid_rows, own_then, set_length, set_rows, set_own}
 use Rattle.rows.proofs.View.{Within, within_own, carried}
 use Rattle.closing.specs.Closed.{keep_by}
-use Rattle.closing.proofs.Closing.{keep_by_keep}
+use Rattle.closing.proofs.Closing.{keep_by_keep, Going, going_start, going_end, going_next, going_drop, going_keep}
 use Rattle.naming.specs.Naming.{index_of, with_count, ClosedNames}
-use Rattle.naming.proofs.Search.{index_in, index_out}
-
--- the counted rows are there
-pub name_room : (n : ℕ) (nt : List ℕ) → NamesIn n nt → n ≤ length (name_rows_of nt)
-name_room n nt h = omega (arith, name_count nt)
+use Rattle.naming.proofs.Search.{name_room, index_in, index_out}
 
 -- names can be given and withdrawn on a sound store
 pub sound_nameable : (head : Head) (t : Tables) → Sound (store_of head t) → (head.names ≤ 32) × NamesIn 32 t.names
@@ -40,16 +35,6 @@ sound_nameable head t s = (s.sizes.names_counted, omega (arith, s.sizes.allowed.
 names_within : (nt nt' : List ℕ) (t : Tables) → NamesLaid nt (name_rows_of nt') nt' → Within (with_names nt t) (with_names nt' t)
 names_within nt nt' t e = record { branches = laid_own branch_kind t.branches; records = laid_own record_kind t.records; names = e }
 
--- readable, by the two tests
-module _ (head : Head) (nt : List ℕ) (m : ℕ) where
-  pub readable_floor : head.floor ≤ m → (t : Tables) → true ≡ readable (store_of head (with_names nt t)) m
-  readable_floor h t = sym (readable_above head.floor (moments (names (store_of head (with_names nt t)))) m h)
-
-  pub readable_name : m < head.floor → (t : Tables)
-      → any (λ x. eqb x m) (moments (take head.names (name_rows_of nt))) ≡ readable (store_of head (with_names nt t)) m
-  unfolding is_readable names
-  readable_name h t = rw (lt-leb head.floor m h)
-
 -- which rows stay, by their number
 abbrev pub stays : ℕ → ℕ → List Name → ℕ → Bool
 stays high low rows i = not (is_called high low (get_or rows i zero_name))
@@ -58,6 +43,40 @@ pub stays_without : (high low n : ℕ) (rows : List Name) → n ≤ length rows 
 stays_without high low n rows l =
     keep_by_keep (stays high low rows) (λ x. not (is_called high low x)) zero_name (take n rows)
     (λ i h. ap (λ (x : Name). not (is_called high low x)) (sym (get_or-take n rows i zero_name (rw (length-take-le n rows l) at h))))
+
+-- how far the names of nt have closed up in nt': the first i of n rows are done, and w of them are kept
+pub record ClosingNames (high low n : ℕ) (nt nt' : List ℕ) (i w : ℕ) : Type 0 where
+  pub going : Going zero_name (stays high low (name_rows_of nt)) (name_rows_of nt) (name_rows_of nt') n i w
+  pub laid : NamesLaid nt (name_rows_of nt') nt'
+
+module _ {high low n : ℕ} {nt : List ℕ} where
+  pub names_start : ClosingNames high low n nt nt 0 0
+  names_start = record { going = going_start; laid = laid_own name_kind nt }
+
+  module _ {nt' : List ℕ} {i w : ℕ} (c : ClosingNames high low n nt nt' i w) (room : NamesIn n nt) where
+    pub names_end : n ≤ i → ClosedNames high low n nt nt' w
+    names_end l =
+        let g = going_end c.going l in
+        let e = stays_without high low n (name_rows_of nt) (name_room n nt room) in
+        record { table = rw (g.0, e) at c.laid; count = rw e at g.1 }
+
+    -- the row i is read as x, and becomes zero
+    module _ (long : length nt' ≡ length nt) (l : i < n) {x : Name} (e : x ≡ get_or (name_rows_of nt') i zero_name) {blank : List ℕ} (z : NameSet nt' i zero_name blank) where
+      told : is_called high low x ≡ is_called high low (get_or (name_rows_of nt) i zero_name)
+      told = ap (is_called high low) (e ∙ going_next c.going (name_room n nt room) l)
+
+      blanked : NamesLaid nt (name_rows_of blank) blank
+      blanked = own_then name_kind c.laid long (set_own name_kind z)
+
+      pub names_drop : is_called high low x ≡ true → ClosingNames high low n nt blank (i + 1) w
+      names_drop h = record { going = going_drop c.going (name_room n nt room) l (ap not (sym told ∙ h)) (set_rows name_kind z); laid = blanked }
+
+      pub names_keep : is_called high low x ≡ false → {nt'' : List ℕ} → NameSet blank w x nt'' → ClosingNames high low n nt nt'' (i + 1) (w + 1)
+      names_keep h {nt''} y =
+          record {
+            going = going_keep c.going (name_room n nt room) l (ap not (sym told ∙ h)) e (set_rows name_kind z) (set_rows name_kind y);
+            laid = own_then name_kind blanked (set_length name_kind z ∙ long) (set_own name_kind y);
+          }
 
 -- what is left is no more than there was
 pub count_names : {high low n : ℕ} {nt nt' : List ℕ} {w : ℕ} → ClosedNames high low n nt nt' w → NamesIn n nt → w ≤ n

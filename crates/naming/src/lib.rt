@@ -13,36 +13,30 @@ use model::{Head, Name};
 use rows::{Outcome, ZERO_NAME};
 
 // Whether a row has the name.
+#[tactic(auto, unfolding(model::specs::Store::is_called))]
 fn is_called(x: Name, high: u32, low: u32) -> bool
     ensures { result ≡ is_called high low x }
 {
-    if x.high != high {
-        return false;
-    }
-    if x.low != low {
-        return false;
-    }
-    true
+    x.high == high && x.low == low
 }
 
 // The first row from `from` on, of the first n, that has the name; n where there is none.
+#[tactic(auto, using(crate::proofs::Search::index_hit, crate::proofs::Search::index_miss, crate::proofs::Search::index_none))]
 fn find_name(nt: &[u32], from: usize, n: usize, high: u32, low: u32) -> usize
     requires { (from ≤ n) × NamesIn n nt.now }
     ensures { result ≡ from + index_of high low (drop from (take n (name_rows_of nt.now))) }
 {
-    let mut i = from;
-    while i < n {
+    for i in from..n {
         let x = rows::name_at(nt, i);
-        let found = is_called(x, high, low);
-        if found {
+        if is_called(x, high, low) {
             return i;
         }
-        i += 1;
     }
-    i
+    n
 }
 
 // Whether a row from `from` on, of the first n, has the name.
+#[tactic(auto, using(crate::proofs::Search::any_index))]
 pub fn is_given(nt: &[u32], from: usize, n: usize, high: u32, low: u32) -> bool
     requires { (from ≤ n) × NamesIn n nt.now }
     ensures { result ≡ any (is_called high low) (drop from (take n (name_rows_of nt.now))) }
@@ -55,26 +49,22 @@ fn is_named(nt: &[u32], n: usize, m: u32) -> bool
     requires { NamesIn n nt.now }
     ensures { result ≡ any (λ t. eqb t m) (moments (take n (name_rows_of nt.now))) }
 {
-    let mut i: usize = 0;
-    while i < n {
+    for i in 0..n {
         let x = rows::name_at(nt, i);
         if x.moment == m {
             return true;
         }
-        i += 1;
     }
     false
 }
 
 // Whether a moment up to now can be read: it is not below the floor, or it is named.
+#[tactic(auto, unfolding(model::specs::Lookup::is_readable, model::specs::Store::names))]
 pub fn readable(head: Head, nt: &[u32], m: u32) -> bool
     requires { NamesIn head.names nt.now }
     ensures { (t : Tables) → result ≡ can_read (store_of head (with_names nt.now t)) m }
 {
-    if head.floor <= m {
-        return true;
-    }
-    is_named(nt, head.names as usize, m)
+    head.floor <= m || is_named(nt, head.names as usize, m)
 }
 
 // The head with another count of names.
@@ -82,12 +72,8 @@ fn with_names(head: Head, count: u32) -> Head
     ensures { result ≡ with_count head count }
 {
     Head {
-        size: head.size,
-        branches: head.branches,
-        records: head.records,
-        now: head.now,
-        floor: head.floor,
         names: count,
+        ..head
     }
 }
 
@@ -120,19 +106,14 @@ fn close_names(nt: &mut [u32], n: usize, high: u32, low: u32) -> usize
     requires { NamesIn n nt.old }
     ensures { ClosedNames high low n nt.old nt.new result }
 {
-    let mut i: usize = 0;
     let mut w: usize = 0;
-    while i < n {
+    for i in 0..n {
         let x = rows::name_at(nt, i);
         rows::set_name(nt, i, ZERO_NAME);
-        let gone = is_called(x, high, low);
-        if gone {
-            i += 1;
-            continue;
+        if !is_called(x, high, low) {
+            rows::set_name(nt, w, x);
+            w += 1;
         }
-        rows::set_name(nt, w, x);
-        w += 1;
-        i += 1;
     }
     w
 }

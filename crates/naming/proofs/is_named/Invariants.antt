@@ -1,4 +1,3 @@
-use Prim.Native.Nat.{◌-◌, ◌≤◌}
 use mathlib.Core.Path.{◌≡◌}
 use lib.Dec.{eqb}
 use lib.ListN.{take, drop}
@@ -7,7 +6,4 @@ use Rattle.rows.specs.Rows.{name_rows_of}
 use Rattle.naming.proofs.is_named.Given as goal
 
 abbrev pub invariant-loop-i : goal.invariant-loop-i
-invariant-loop-i l = (l.i ≤ l.n) × (any (λ t. eqb t l.m) (moments (take l.n (name_rows_of l.nt))) ≡ any (λ t. eqb t l.m) (moments (drop l.i (take l.n (name_rows_of l.nt)))))
-
-abbrev pub decreases-loop-i : goal.decreases-loop-i
-decreases-loop-i l = l.n - l.i
+invariant-loop-i l = any (λ t. eqb t l.m) (moments (take l.n (name_rows_of l.nt))) ≡ any (λ t. eqb t l.m) (moments (drop l.i (take l.n (name_rows_of l.nt))))
