@@ -1,26 +1,28 @@
 -- Check 2 of the names, row by row.
 use mathlib.Core.Path.{◌≡◌}
 use mathlib.Core.List.{List, [], ◌∷◌}
-use mathlib.Core.Bool.{Bool, true, false, not}
-use Prim.Native.Nat.{ℕ, zero, suc, ◌≤◌, ◌<◌}
-use native.Mathlib.Omega.{arith}
+use mathlib.Core.Bool.{true, not, ◌&&◌}
+use Prim.Native.Nat.{ℕ, zero, suc, ◌+◌, ◌<◌}
+use native.Mathlib.Nat.{le_refl}
 use lib.Dec.{ltb}
-use lib.ListN.{drop}
-use borrow.Author.Tests.{ltb-true, lt-ltb}
+use lib.ListN.{get_or, take, drop}
 use Rattle.model.specs.declared.Branch.{Branch}
 use Rattle.model.specs.declared.Name.{Name}
-use Rattle.model.specs.Store.{is_called, any}
+use Rattle.model.specs.Store.{is_called, any, zero_name}
 use Rattle.model.specs.Lookup.{holds}
 use Rattle.model.specs.Soundness.{names_sound}
-use Rattle.model.proofs.Base.{case, and→, no_test}
+use Rattle.model.specs.ByNumber.{newest_of, held}
+use Rattle.model.proofs.Base.{case, and→}
+use Rattle.rows.specs.Rows.{branch_rows_of, name_rows_of, NamesIn}
+use Rattle.naming.proofs.Search.{next_name, no_name}
 
 module _ (now : ℕ) (bs : List Branch) where
   abbrev Named : List Name → Type 0
   Named ns = names_sound now bs ns ≡ true
 
-  pub names_none : (ns : List Name) → ns ≡ [] → Named ns
+  pub names_end : (nt : List ℕ) (n : ℕ) → NamesIn n nt → Named (drop n (take n (name_rows_of nt)))
   unfolding names_sound
-  names_none ns e = rw e
+  names_end nt n room = rw (no_name nt n n room (le_refl n))
 
   -- the moment of the first is below now, and those after it are sound
   first : (n : Name) (ns : List Name) → Named (n ∷ ns) → (ltb n.moment now ≡ true) × Named ns
@@ -35,15 +37,22 @@ module _ (now : ℕ) (bs : List Branch) where
   names_from [] (suc i) e = e
   names_from (n ∷ ns) (suc i) e = names_from ns i (first n ns e).1
 
-  -- a row and those after it, by the tests
-  module _ (ns : List Name) (x : Name) (rest : List Name) (e : ns ≡ x ∷ rest) where
-    pub name_late : now ≤ x.moment → false ≡ names_sound now bs ns
-    name_late l = no_test (λ z. let z' : Named (x ∷ rest) = rw e at z in omega (arith, ltb-true x.moment now (first x rest z').0))
+-- the row i of n, where those after it are sound
+module _ (now : ℕ) (bt nt : List ℕ) (m n i : ℕ) (room : NamesIn n nt) (l : i < n) where
+  abbrev x : Name
+  x = get_or (name_rows_of nt) i zero_name
 
-    pub name_twice : any (is_called x.high x.low) rest ≡ true → false ≡ names_sound now bs ns
-    unfolding names_sound
-    name_twice u = rw (e, u)
-
-    pub name_is : any (is_called x.high x.low) rest ≡ false → x.moment < now → Named rest → (r : Bool) → r ≡ any (λ b. holds b x.moment) bs → r ≡ names_sound now bs ns
-    unfolding names_sound
-    name_is u l h r d = case r (λ c. rw (e, u, lt-ltb _ _ l, h, ← d, c)) (λ c. rw (e, u, lt-ltb _ _ l, h, ← d, c))
+  pub named_on : names_sound now (newest_of (branch_rows_of bt) m) (drop (i + 1) (take n (name_rows_of nt))) ≡ true
+      → names_sound now (newest_of (branch_rows_of bt) m) (drop i (take n (name_rows_of nt)))
+      ≡ (ltb x.moment now && (not (any (is_called x.high x.low) (drop (i + 1) (take n (name_rows_of nt)))) && held (branch_rows_of bt) m x.moment))
+  unfolding names_sound held
+  named_on h =
+      let branches : List Branch = newest_of (branch_rows_of bt) m in
+      let rest : List Name = drop (i + 1) (take n (name_rows_of nt)) in
+      let next : drop i (take n (name_rows_of nt)) ≡ x ∷ rest = next_name nt n i room l in
+      case (any (is_called x.high x.low) rest)
+      (λ g. case (ltb x.moment now) (λ d. rw (next, g, d)) (λ d. rw (next, g, d)))
+      (λ g.
+      case (ltb x.moment now)
+      (λ d. case (any (λ b. holds b x.moment) branches) (λ e. rw (next, g, d, e, h)) (λ e. rw (next, g, d, e)))
+      (λ d. rw (next, g, d)))

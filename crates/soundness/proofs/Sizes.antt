@@ -1,19 +1,20 @@
 -- Check 1: what the tests of the lengths say.
 use mathlib.Core.Path.{◌≡◌}
-use mathlib.Core.Bool.{true, false, ◌&&◌}
+use mathlib.Core.List.{List}
+use mathlib.Core.Bool.{true, ◌&&◌}
 use Prim.Native.Nat.{ℕ, ◌/◌, ◌%◌, ◌≤◌}
 use native.Mathlib.Omega.{arith}
-use lib.Dec.{eqb}
+use lib.Dec.{leb, eqb}
 use lib.ListN.{length}
 use borrow.Author.Tests.{eqb-true, eq-eqb}
 use Rattle.model.specs.declared.Head.{Head}
 use Rattle.model.specs.Store.{Store, open_end}
 use Rattle.model.specs.Soundness.{sizes_allowed, in_range}
-use Rattle.model.proofs.Base.{and→, →and, no_test}
-use Rattle.model.proofs.Invariant.{→sizes, →in_range}
+use Rattle.model.proofs.Base.{case, and→, →and}
+use Rattle.model.proofs.Invariant.{→sizes}
 use Rattle.model.specs.ByNumber.{Allowed, Sizes}
 use Rattle.model.proofs.Checked.{sizes→, in_range→}
-use Rattle.rows.specs.View.{Tables, store_of}
+use Rattle.rows.specs.View.{Tables, tables, store_of}
 use Rattle.rows.specs.Rows.{branch_width, record_width, name_width}
 use Rattle.rows.proofs.Laws.{branch_count, record_count, name_count}
 use Rattle.soundness.specs.Check.{whole_rows, whole_tables, allowed_of}
@@ -37,9 +38,6 @@ module _ {size lb lr lp ln ls : ℕ} where
   pub →lengths : Lengths size lb lr lp ln ls → allowed_of size lb lr lp ln ls ≡ true
   unfolding allowed_of whole_rows
   →lengths z = →and (→and (eq-eqb _ _ z.branches) (→and (eq-eqb _ _ z.records) (eq-eqb _ _ z.names))) (→sizes size (lb / branch_width) (lr / record_width) lp (ln / name_width) ls z.allowed)
-
-  pub lengths_no : (Lengths size lb lr lp ln ls → ⊥) → false ≡ allowed_of size lb lr lp ln ls
-  lengths_no h = no_test (λ e. h (lengths→ e))
 
 -- the three tables of rows are whole numbers of rows long, so that their rows are all that they hold
 pub record WholeRows (t : Tables) : Type 0 where
@@ -87,19 +85,16 @@ module _ (head : Head) (t : Tables) (high : head.now ≤ open_end) where
         floor_now = z.floor_now;
       }
 
-  pub →ranges : Ranges head t → (whole_tables t && in_range S) ≡ true
-  →ranges r =
-      →and (→whole t (record { branches = r.lengths.branches; records = r.lengths.records; names = r.lengths.names }))
-      (→in_range S
-      (record {
-        allowed = rw (branch_count t.branches, record_count t.records, name_count t.names) r.lengths.allowed;
-        counted_low = r.counted_low;
-        counted_high = omega (arith, r.counted_high, branch_count t.branches);
-        records_counted = omega (arith, r.records_counted, record_count t.records);
-        names_counted = r.names_counted;
-        floor_now = r.floor_now;
-        now_high = high;
-      }))
-
-  pub ranges_no : (Ranges head t → ⊥) → false ≡ (whole_tables t && in_range S)
-  ranges_no h = no_test (λ e. h (ranges→ e))
+-- check 1, by the lengths, as tests
+pub in_range_by : (head : Head) (bt rt pt nt : List ℕ) (slab : List ℕ)
+    → (whole_tables (tables bt rt pt nt slab) && in_range (store_of head (tables bt rt pt nt slab)))
+    ≡ (allowed_of head.size (length bt) (length rt) (length pt) (length nt) (length slab)
+    && (leb 1 head.branches && (leb head.branches (length bt / branch_width) && (leb head.records (length rt / record_width) && (leb head.names 32 && leb head.floor head.now)))))
+unfolding in_range allowed_of
+in_range_by head bt rt pt nt slab =
+    case (whole_rows (length bt) (length rt) (length nt))
+    (λ w.
+    case (sizes_allowed head.size (length bt / branch_width) (length rt / record_width) (length pt) (length nt / name_width) (length slab))
+    (λ a. case (leb 1 head.branches) (λ l. rw (branch_count bt, record_count rt, name_count nt, w, a, l)) (λ l. rw (branch_count bt, record_count rt, name_count nt, w, a, l)))
+    (λ a. rw (branch_count bt, record_count rt, name_count nt, w, a)))
+    (λ w. rw w)

@@ -1,6 +1,5 @@
 use mathlib.Core.Path.{◌≡◌}
 use mathlib.Core.Bool.{true}
-use Prim.Native.Nat.{◌≤◌}
 use lib.ListN.{take, drop}
 use Rattle.model.specs.Soundness.{names_sound}
 use Rattle.model.specs.ByNumber.{newest_of}
@@ -9,7 +8,4 @@ use Rattle.soundness.proofs.names_sound.Given as goal
 
 abbrev pub invariant-loop-i : goal.invariant-loop-i
 invariant-loop-i l =
-    (l.i ≤ l.head.names) × (names_sound l.head.now (newest_of (branch_rows_of l.bt) l.head.branches) (drop l.i (take l.head.names (name_rows_of l.nt))) ≡ true)
-
-abbrev pub decreases-loop-i : goal.decreases-loop-i
-decreases-loop-i l = l.i
+    names_sound l.head.now (newest_of (branch_rows_of l.bt) l.head.branches) (drop l.i (take l.head.names (name_rows_of l.nt))) ≡ true
