@@ -20,22 +20,14 @@ pub struct Finding {
 }
 
 // Whether the record i stands after the one before it.
+#[tactic(auto, unfolding(model::specs::Soundness::precedes))]
 fn after(rt: &[u32], i: usize) -> bool
     requires { (0 < i) × RecordsIn (suc i) rt.now }
     ensures { result ≡ precedes (entry (record_rows_of rt.now) (i - 1)) (entry (record_rows_of rt.now) i) }
 {
     let q = rows::record_at(rt, i - 1);
     let r = rows::record_at(rt, i);
-    if q.address < r.address {
-        return true;
-    }
-    if q.address != r.address {
-        return false;
-    }
-    if q.moment < r.moment {
-        return true;
-    }
-    false
+    q.address < r.address || (q.address == r.address && q.moment < r.moment)
 }
 
 // Whether the counted record i keeps the record rules: against the one before it, and by itself. Its number is made before the place
@@ -58,25 +50,15 @@ fn row_kept(
         ok: false,
         row: from,
     };
-    if 0 < i {
-        let up = after(rt, i);
-        if !up {
-            return no;
-        }
-    }
-    let r = rows::record_at(rt, i);
-    if head.size <= r.address {
+    if 0 < i && !after(rt, i) {
         return no;
     }
-    if head.now < r.moment {
+    let r = rows::record_at(rt, i);
+    if head.size <= r.address || head.now < r.moment {
         return no;
     }
     let p = r.place as usize;
-    if pt.len() <= p {
-        return no;
-    }
-    let k = pt[p] as usize;
-    if k != number {
+    if pt.len() <= p || pt[p] as usize != number {
         return no;
     }
     holding::held_from(bt, head.branches as usize, low, from, r.moment)
@@ -86,15 +68,7 @@ fn row_kept(
 fn in_use(pt: &[u32]) -> usize
     ensures { result ≡ used pt.now }
 {
-    let mut n: usize = 0;
-    let mut i: usize = 0;
-    while i < pt.len() {
-        if pt[i] != 0 {
-            n += 1;
-        }
-        i += 1;
-    }
-    n
+    pt.iter().filter(|p| **p != 0).count()
 }
 
 // Check 3: order and places together, in one pass over the counted records; then one over the places.
@@ -106,8 +80,7 @@ pub fn records_checked(head: Head, bt: &[u32], rt: &[u32], pt: &[u32]) -> Findin
     let n = head.records as usize;
     let low = holding::unbroken_from(head, bt);
     let mut from: usize = 0;
-    let mut i: usize = 0;
-    while i < n {
+    for i in 0..n {
         let seen = row_kept(head, bt, rt, pt, low, i, from);
         if !seen.ok {
             return Finding {
@@ -116,7 +89,6 @@ pub fn records_checked(head: Head, bt: &[u32], rt: &[u32], pt: &[u32]) -> Findin
             };
         }
         from = seen.row;
-        i += 1;
     }
     let u = in_use(pt);
     if u != n {

@@ -1,15 +1,22 @@
+use mathlib.Core.Path.{◌≡◌, refl, sym, ◌∙◌}
+use mathlib.Core.List.{List}
 use native.Mathlib.Omega.{arith}
-use Rattle.record_check.proofs.Used.{used_none, used_more, used_free}
+use Prim.Native.Nat.{ℕ}
+use Rattle.std.proofs.Common.{rules}
+use Rattle.std.proofs.iter.runs.Made.{chains}
+use Rattle.std.specs.Prelude.{count_by}
+use Rattle.std.proofs.lemmas.List.Recursion.{is_count_by}
+use Rattle.model.specs.Store.{keep}
+use Rattle.model.specs.Soundness.{used, in_use}
+use Rattle.model.proofs.Base.{case}
 use Rattle.record_check.proofs.in_use.Goals as goal
-use Rattle.record_check.proofs.in_use.Goals.{then-pt-i-ne0, else-pt-i-ne0}
 
-pub loop-i-init : goal.loop-i-init
-loop-i-init c = (omega arith, omega arith, used_none c.args.pt.now)
+-- the model's count is the library's
+used_count : (ps : List ℕ) → used ps ≡ count_by in_use ps
+unfolding used keep
+used_count = is_count_by used in_use refl (λ p ps. case (in_use p) (λ e. rw e (omega arith)) (λ e. rw e))
 
-pub loop-i-preserved : goal.loop-i-preserved
-loop-i-preserved c =
-    let ps = c.args.pt.now in
-    elim c.if-pt-i-ne0.branch [
-      | then-pt-i-ne0 w ↦ (omega arith, omega arith, rw w.n-is (used_more ps c.loop-i.i c.loop-i.n (omega arith) c.loop-i.invariant.2 w.if-pt-i-ne0.true))
-      | else-pt-i-ne0 w ↦ (omega arith, omega arith, rw w.n-is (used_free ps c.loop-i.i c.loop-i.n (omega arith) c.loop-i.invariant.2 w.if-pt-i-ne0.false))
-    ]
+pub returns : goal.returns
+returns c =
+    let counted : c.count.result ≡ count_by in_use c.args.pt.now = search (rules, chains) in
+    counted ∙ sym (used_count c.args.pt.now)
