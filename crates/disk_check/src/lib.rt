@@ -9,49 +9,33 @@ ghost use Rattle.disk_check.specs.Check.{live_finding_of};
 use model::Head;
 use record_check::Finding;
 
-// The larger of two marks.
-fn larger(a: u8, b: u8) -> u8
-    ensures { result ≡ max a b }
-{
-    if a < b {
-        return b;
-    }
-    a
-}
-
-// Whether no mark is above 3.
+// Whether no mark is above 3: the largest of all is found, with no early end, so that the compiler takes many at a time.
+#[tactic(auto, using(crate::proofs::Marks::small_next, crate::proofs::Marks::small_end))]
 fn marks_small(marks: &[u8]) -> bool
     ensures { result ≡ marks_small marks.now }
 {
     let mut most: u8 = 0;
-    let mut i: usize = 0;
-    while i < marks.len() {
-        let m = marks[i];
-        most = larger(most, m);
-        i += 1;
+    for m in marks {
+        most = most.max(*m);
     }
     most <= 3
 }
 
 // 18, or 0 where disk and marks are those of a volume of so many pages.
+#[tactic(auto, unfolding(live::specs::Live::disk_check))]
 fn disk_check(size: u32, disk: &[u8], marks: &[u8]) -> u32
     ensures { result ≡ disk_check size (disk_of disk.now marks.now) }
 {
     let pages = size as usize;
-    if disk.len() != 256 * pages {
-        return 18;
+    if disk.len() == 256 * pages && marks.len() == pages && marks_small(marks) {
+        0
+    } else {
+        18
     }
-    if marks.len() != pages {
-        return 18;
-    }
-    let small = marks_small(marks);
-    if !small {
-        return 18;
-    }
-    0
 }
 
 // The table checks, then 18.
+#[tactic(auto, unfolding(crate::specs::Check::live_check_of))]
 pub fn check(
     head: Head,
     bt: &[u32],
