@@ -14,9 +14,7 @@ pub fn copy(out: &mut [u8], src: &[u8])
     requires { length src.now ≤ length out.old }
     ensures { out.new ≡ in_front src.now out.old }
 {
-    for i in 0..src.len() {
-        out[i] = src[i];
-    }
+    out[..src.len()].copy_from_slice(src);
 }
 
 // The five bytes of an answer without its page go to the front of out.
