@@ -8,6 +8,7 @@ ghost use Rattle.batch_areas.specs.Batch.{batch_left, BatchDone};
 
 use batch::Batched;
 use batch_tables::Tried;
+use tables::{BRANCH_NUMBERS, NAME_NUMBERS, PLACE_NUMBERS, RECORD_NUMBERS};
 
 // A batch on areas of bytes whose lengths fit; a refusal writes nothing.
 pub fn batch_areas(
@@ -29,10 +30,10 @@ pub fn batch_areas(
     let nr = records.len() / 4;
     let np = places.len() / 4;
     let first = tables::get_head(head);
-    let mut bt = tables::branch_room();
-    let mut rt = tables::record_room();
-    let mut pt = tables::place_room();
-    let mut nt = tables::name_room();
+    let mut bt = tables::room::<BRANCH_NUMBERS>();
+    let mut rt = tables::room::<RECORD_NUMBERS>();
+    let mut pt = tables::room::<PLACE_NUMBERS>();
+    let mut nt = tables::room::<NAME_NUMBERS>();
     let tried = batch_tables::batch_tables(
         first,
         branches,

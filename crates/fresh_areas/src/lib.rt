@@ -9,6 +9,7 @@ ghost use Rattle.fresh_areas.specs.Fresh.{fresh_left, FreshDone, FreshSaved};
 
 use fresh::Made;
 use model::Head;
+use tables::{BRANCH_NUMBERS, NAME_NUMBERS, PLACE_NUMBERS, RECORD_NUMBERS};
 
 // A fresh store made in tables of zeros and written as bytes; a refusal writes nothing.
 fn fresh_tables(
@@ -58,10 +59,10 @@ pub fn fresh_areas(
     let nb = branches.len() / 4;
     let nr = records.len() / 4;
     let np = places.len() / 4;
-    let mut bt = tables::branch_room();
-    let mut rt = tables::record_room();
-    let mut pt = tables::place_room();
-    let mut nt = tables::name_room();
+    let mut bt = tables::room::<BRANCH_NUMBERS>();
+    let mut rt = tables::room::<RECORD_NUMBERS>();
+    let mut pt = tables::room::<PLACE_NUMBERS>();
+    let mut nt = tables::room::<NAME_NUMBERS>();
     let made = fresh_tables(
         size,
         branches,

@@ -9,6 +9,7 @@ ghost use Rattle.listing.specs.Lists.{listing_of, Lists};
 ghost use Rattle.listing_areas.specs.Lists.{list_bytes};
 
 use model::Head;
+use tables::{BRANCH_NUMBERS, NAME_NUMBERS, PLACE_NUMBERS, RECORD_NUMBERS};
 use work_orders::Listed;
 
 // A list of work orders on tables of bytes, with room for their numbers.
@@ -51,10 +52,10 @@ pub fn list_areas(
     let nr = records.len() / 4;
     let np = places.len() / 4;
     let first = tables::get_head(head);
-    let mut bt = tables::branch_room();
-    let mut rt = tables::record_room();
-    let mut pt = tables::place_room();
-    let mut nt = tables::name_room();
+    let mut bt = tables::room::<BRANCH_NUMBERS>();
+    let mut rt = tables::room::<RECORD_NUMBERS>();
+    let mut pt = tables::room::<PLACE_NUMBERS>();
+    let mut nt = tables::room::<NAME_NUMBERS>();
     list_tables(
         first,
         branches,

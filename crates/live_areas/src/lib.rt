@@ -12,6 +12,7 @@ ghost use Rattle.live_areas.specs.Live.{live_read_bytes, copy_bytes};
 
 use live::{Copied, Located};
 use model::Head;
+use tables::{BRANCH_NUMBERS, NAME_NUMBERS, PLACE_NUMBERS, RECORD_NUMBERS};
 
 // A live read on tables of bytes, with room for their numbers.
 fn locate_tables(
@@ -55,10 +56,10 @@ pub fn locate_areas(
     let nr = records.len() / 4;
     let np = places.len() / 4;
     let first = tables::get_head(head);
-    let mut bt = tables::branch_room();
-    let mut rt = tables::record_room();
-    let mut pt = tables::place_room();
-    let mut nt = tables::name_room();
+    let mut bt = tables::room::<BRANCH_NUMBERS>();
+    let mut rt = tables::room::<RECORD_NUMBERS>();
+    let mut pt = tables::room::<PLACE_NUMBERS>();
+    let mut nt = tables::room::<NAME_NUMBERS>();
     locate_tables(
         first,
         branches,
@@ -118,10 +119,10 @@ pub fn step_areas(
     let nr = records.len() / 4;
     let np = places.len() / 4;
     let first = tables::get_head(head);
-    let mut bt = tables::branch_room();
-    let mut rt = tables::record_room();
-    let mut pt = tables::place_room();
-    let mut nt = tables::name_room();
+    let mut bt = tables::room::<BRANCH_NUMBERS>();
+    let mut rt = tables::room::<RECORD_NUMBERS>();
+    let mut pt = tables::room::<PLACE_NUMBERS>();
+    let mut nt = tables::room::<NAME_NUMBERS>();
     step_tables(
         first,
         branches,

@@ -2,7 +2,7 @@
 #![tactic(auto)]
 
 ghost use Rattle.std.specs.Prelude.{◌≡◌, ◌*◌, length};
-ghost use Rattle.rows.specs.Rows.{zeros, branch_width, record_width, name_width};
+ghost use Rattle.rows.specs.Rows.{zeros};
 ghost use Rattle.rows.specs.View.{number_tables};
 ghost use Rattle.tables.specs.Numbers.{numbers_of, Written, head_of, head_numbers};
 ghost use Rattle.tables.specs.Tables.{numbers_in, lengths_fit, Room, Saved};
@@ -86,6 +86,7 @@ pub fn put_head(head: &mut [u8], h: Head)
 }
 
 // Whether the lengths in bytes of a head and of the four tables are such as may be lent.
+#[tactic(auto, using(crate::proofs::Laws::lengths_no))]
 pub fn lengths_fit(h: usize, b: usize, r: usize, p: usize, n: usize) -> bool
     ensures { result ≡ lengths_fit h b r p n }
 {
@@ -156,30 +157,10 @@ pub fn save(
     put_all(nt, names);
 }
 
-// Room for as many branch rows as may be lent.
-pub fn branch_room() -> [u32; BRANCH_NUMBERS]
-    ensures { result ≡ zeros (4096 * branch_width) }
+// Room for a table of N numbers.
+#[tactic(auto, unfolding(rows::specs::Rows::zeros))]
+pub fn room<const N: usize>() -> [u32; N]
+    ensures { result ≡ zeros N }
 {
-    [0u32; BRANCH_NUMBERS]
-}
-
-// Room for as many record rows as may be lent.
-pub fn record_room() -> [u32; RECORD_NUMBERS]
-    ensures { result ≡ zeros (65536 * record_width) }
-{
-    [0u32; RECORD_NUMBERS]
-}
-
-// Room for as many place rows as may be lent.
-pub fn place_room() -> [u32; PLACE_NUMBERS]
-    ensures { result ≡ zeros 65536 }
-{
-    [0u32; PLACE_NUMBERS]
-}
-
-// Room for the name rows.
-pub fn name_room() -> [u32; NAME_NUMBERS]
-    ensures { result ≡ zeros (32 * name_width) }
-{
-    [0u32; NAME_NUMBERS]
+    [0u32; N]
 }

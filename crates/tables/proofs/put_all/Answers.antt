@@ -38,4 +38,4 @@ pub returns : goal.returns
 returns c =
     let src = c.args.src.now in
     let e : c.loop-i.dst ≡ bytes_of src = c.loop-i.invariant.2 ∙ bytes_all src c.args.dst.now c.loop-i.i (omega arith) (omega arith) in
-    record { bytes = e; again = ap numbers_of e ∙ numbers_bytes src (λ k. (c.shared_slice_known-1.given k).fits) }
+    record { bytes = e; again = ap numbers_of e ∙ numbers_bytes src (λ k. (c.type_inv.src k).fits) }
