@@ -1,16 +1,16 @@
 -- Laws of the write.
 use mathlib.Core.Path.{◌≡◌, refl, ap, sym, ◌∙◌}
 use mathlib.Core.Logic.{◌⊎◌, inl, inr}
-use mathlib.Core.List.{List, [], ◌∷◌, ◌++◌, map, append_assoc}
+use mathlib.Core.List.{List, [], ◌∷◌, ◌++◌, map}
 use mathlib.Core.Option
 use mathlib.Core.Option.{some, none}
 use mathlib.Core.Bool.{true, false}
-use Prim.Native.Nat.{ℕ, zero, suc, ◌+◌, ◌*◌, ◌-◌, ◌≤◌, ◌<◌, suc-le-suc}
+use Prim.Native.Nat.{ℕ, zero, suc, ◌+◌, ◌-◌, ◌≤◌, ◌<◌, suc-le-suc}
 use native.Mathlib.Nat.{le_of_suc-le-suc, not-suc-le-zero, le_refl}
 use native.Mathlib.Decide.{dec_lt, ℕ_discrete}
 use native.Mathlib.Omega.{arith}
-use lib.ListN.{length, get_or, set, take, drop, length-set, length-map, get_or-eq_default}
-use lib.Seq.{get_or-take, length-take-le, get_or-set_same, get_or-set_other, ext_get_or, paste, take_all}
+use lib.ListN.{length, get_or, set, take, drop, length-map, get_or-eq_default}
+use lib.Seq.{get_or-take, length-take-le, get_or-set_same, get_or-set_other}
 use borrow.Author.Tests.{lt-ltb, le-ltb}
 use Rattle.model.specs.declared.Head.{Head}
 use Rattle.model.specs.declared.Record.{Record}
@@ -23,18 +23,18 @@ use Rattle.model.specs.Wire.{write}
 use Rattle.model.proofs.Base.{case}
 use Rattle.model.proofs.Latest.{precedes→, →precedes}
 use Rattle.model.proofs.Places.{get_d_map_lt, shifted_low, shifted_high, first_free→}
-use Rattle.rows.specs.Rows.{record_rows_of, RecordsLaid}
-use Rattle.rows.proofs.Laws.{branch_kind, record_kind, name_kind}
+use Rattle.rows.specs.Rows.{record_rows_of, RecordsIn, RecordsLaid}
+use Rattle.rows.proofs.Laws.{branch_kind, record_kind, name_kind, record_count}
 use Rattle.rows.proofs.Relaid.{laid_own, laid_rows}
 use Rattle.rows.proofs.View.{within_own, leaves_all, carried}
 use Rattle.rows.specs.declared.Outcome.{Outcome}
 use Rattle.rows.specs.View.{Tables, with_records, with_places, with_slab, store_of, record_given, Leaves, Carried, refused_with, accepted_with}
-use Rattle.model.specs.ByNumber.{Ascend, entry}
-use Rattle.lookup.proofs.Laws.{Bracket}
+use Rattle.model.specs.ByNumber.{Asc, Ascend, entry}
+use Rattle.model.proofs.ByNumber.{asc_ascend}
+use Rattle.lookup.specs.Order.{up_to}
+use Rattle.lookup.proofs.Laws.{Bracket, bracket_of}
 use Rattle.lookup.proofs.Walk.{Span, span_start, latest_here, latest_low, latest_other, latest_end}
-use Rattle.writing.specs.Free.{free_of, NoneBelow}
-use Rattle.writing.specs.declared.Free.{Free}
-use Rattle.writing.specs.declared.Free.TheVariants.{At}
+use Rattle.writing.specs.Free.{NoneBelow}
 use Rattle.writing.specs.Writable.{Slot}
 
 -- the first free place
@@ -85,46 +85,6 @@ pub record Mapped (f : ℕ → ℕ) (us vs : List ℕ) (i : ℕ) : Type 0 where
   pub long : length vs ≡ length us
   pub low : (k : ℕ) → k < i → get_or vs k 0 ≡ f (get_or us k 0)
   pub high : (k : ℕ) → i ≤ k → get_or vs k 0 ≡ get_or us k 0
-
-module _ (f : ℕ → ℕ) (us : List ℕ) where
-  pub mapped_start : Mapped f us us 0
-  mapped_start = record { long = refl; low = λ k l. absurd (not-suc-le-zero l); high = λ k l. refl }
-
-  pub mapped_step : (vs : List ℕ) (i x : ℕ) → Mapped f us vs i → i < length vs → x ≡ f (get_or vs i 0) → (i + 1 ≤ length (set vs i x)) × Mapped f us (set vs i x) (i + 1)
-  mapped_step vs i x m l e = (
-    omega (arith, length-set vs i x),
-    record {
-      long = length-set vs i x ∙ m.long;
-      low = λ k h. go k h (dec_lt k i);
-      high = λ k h. get_or-set_other vs i k x 0 (λ z. omega (arith, z)) ∙ m.high k (omega arith);
-    },
-  )
-    where
-      go : (k : ℕ) → k < i + 1 → Dec (k < i) → get_or (set vs i x) k 0 ≡ f (get_or us k 0)
-      go k h (yes d) = get_or-set_other vs i k x 0 (λ z. omega (arith, z)) ∙ m.low k d
-      go k h (no d) =
-          let z : k ≡ i = omega arith in
-          rw z (get_or-set_same vs i x 0 l ∙ e ∙ ap f (m.high i (le_refl i)))
-
-  pub mapped_end : (vs : List ℕ) (i : ℕ) → Mapped f us vs i → length vs ≤ i → vs ≡ map f us
-  mapped_end vs i m l =
-      ext_get_or 0 vs (map f us) (m.long ∙ sym (length-map us f))
-      (λ k h. m.low k (omega arith) ∙ sym (get_d_map_lt f us k (omega (arith, m.long))))
-
-pub moved_low : (at k : ℕ) → k ≤ at → k ≡ shifted at k
-moved_low at k h = sym (shifted_low at k h)
-
-pub moved_high : (at k : ℕ) → at < k → k + 1 ≡ shifted at k
-moved_high at k h = (let z : k + 1 ≡ suc k = omega arith in z) ∙ sym (shifted_high at k h)
-
--- a page put into the slab
-pub page_end : (slab page now : List ℕ) (p base i : ℕ) → base ≡ 256 * p → i ≤ length page → length page ≤ i → length page ≡ 256 → now ≡ paste slab base page i → now ≡ with_page slab p page
-unfolding with_page
-page_end slab page now p base i b h g l e =
-    let z : i ≡ 256 = omega arith in
-    let t : take 256 page ≡ page = take_all 256 page (omega arith) in
-    let e' : now ≡ paste slab (256 * p) page 256 = rw (b, z) at e in
-    e' ∙ rw t (append_assoc (take (256 * p) slab) page (drop (256 * p + 256) slab))
 
 -- the row of a new record
 before_is : (q : Record) (xs : List Record) (c : ℕ) → c ≤ length xs → ((k : ℕ) → k < c → precedes (entry xs k) q ≡ true) → (c < length xs → precedes (entry xs c) q ≡ false) → before q xs ≡ c
@@ -202,6 +162,38 @@ module _ (rows : List Record) (n a t c : ℕ) (room : n ≤ length rows) (up : A
         long : length (take n rows) ≡ n
         long = length-take-le n rows room
 
+-- what stands at (a, t) in a table whose first n records are in order, of which c are up to (a, t)
+module _ (rt : List ℕ) (n a t c : ℕ) (counted : RecordsIn n rt × (c ≡ up_to a t (take n (record_rows_of rt)))) (asc : Asc (take n (record_rows_of rt))) where
+  abbrev rows : List Record
+  rows = record_rows_of rt
+
+  there : n ≤ length rows
+  there = omega (arith, record_count rt, counted)
+
+  up : Ascend rows n
+  up = asc_ascend rows n there asc
+
+  pinned : Bracket rows n a t c c
+  pinned = bracket_of rows n a t there up c counted.1
+
+  pub place_inside : c ≤ n
+  place_inside = pinned.inside
+
+  pub row_stands : (q : Record) → q ≡ entry rows (c - 1) → 0 < c → q.address ≡ a → q.moment ≡ t → some q ≡ latest (take n rows) a t t
+  row_stands = standing_row rows n a t c there up pinned
+
+  abbrev pub NoneStands : Type 0
+  NoneStands = (none ≡ latest (take n rows) a t t) × Slot (take n rows) a t c
+
+  stands_not : (0 < c → (entry rows (c - 1)).address ≡ a → (entry rows (c - 1)).moment ≡ t → ⊥) → NoneStands
+  stands_not ne = (standing_none rows n a t c there up pinned ne, standing_slot rows n a t c there up pinned ne)
+
+  pub other_stands : (q : Record) → q ≡ entry rows (c - 1) → (q.address ≡ a → q.moment ≡ t → ⊥) → NoneStands
+  other_stands q e ne = stands_not (λ _. rw e at ne)
+
+  pub none_stands : c ≤ 0 → NoneStands
+  none_stands h = stands_not (λ l x y. omega arith)
+
 -- the write of a new record
 module _ (head : Head) (t : Tables) (a : ℕ) (page : List ℕ) (r : Outcome) where
   abbrev S : Store
@@ -255,10 +247,10 @@ pub record Taking (head : Head) (rt pt : List ℕ) (at p : ℕ) : Type 0 where
   pub row : at ≤ head.records
   pub more : head.records < length (record_rows_of rt)
 
-pub taking_of : (head : Head) (rt pt : List ℕ) (a at p : ℕ) (f : Free) → f ≡ At p → free_of f ≡ first_free pt → Slot (take head.records (record_rows_of rt)) a head.now at
+pub taking_of : (head : Head) (rt pt : List ℕ) (a at p : ℕ) → some p ≡ first_free pt → Slot (take head.records (record_rows_of rt)) a head.now at
     → head.records < length (record_rows_of rt) → Taking head rt pt at p
-taking_of head rt pt a at p f e d s l =
-    let g : first_free pt ≡ some p = sym d ∙ ap free_of e in
+taking_of head rt pt a at p d s l =
+    let g : first_free pt ≡ some p = sym d in
     record {
       free = g;
       smallest = first_free→ pt p g;

@@ -26,9 +26,10 @@ moved_start rs n p h =
     record { from = h; to = le_refl n; long = refl; low = λ i l. refl; high = λ i l m. absurd (omega arith); rest = λ i l. refl }
 
 module _ (rs us vs : List Record) (n p k : ℕ) (w : Moved rs us n p k) (room : n < length rs) where
-  pub moved_step : p < k → vs ≡ set us k (get_or us (k - 1) zero_record) → Moved rs vs n p (k - 1)
+  pub moved_step : p < k → vs ≡ set us (k - 1 + 1) (get_or us (k - 1) zero_record) → Moved rs vs n p (k - 1)
   moved_step h e =
-      rw e
+      let z : k - 1 + 1 ≡ k = omega arith in
+      rw (e, z)
       (record {
         from = omega arith;
         to = omega (arith, w.to);

@@ -17,25 +17,18 @@ ghost use Rattle.writing.specs.Writable.{Room, Writable, Slot};
 use model::{Head, Record};
 use rows::{Found, Outcome};
 
-#[derive(Clone, Copy)]
-pub enum Free {
-    At(usize),
-    Full,
-}
-
 // The free place with the smallest number; no place below `from` is free.
-fn first_free(pt: &[u32], from: usize) -> Free
+#[tactic(auto, using(crate::proofs::Laws::free_at, crate::proofs::Laws::free_none))]
+fn first_free(pt: &[u32], from: usize) -> Option<usize>
     requires { NoneBelow from pt.now }
     ensures { free_of result ≡ first_free pt.now }
 {
-    let mut i = from;
-    while i < pt.len() {
+    for i in from..pt.len() {
         if pt[i] == 0 {
-            return Free::At(i);
+            return Some(i);
         }
-        i += 1;
     }
-    Free::Full
+    None
 }
 
 // A place row after a record row was put in at a row.
@@ -54,12 +47,8 @@ fn shift_places(pt: &mut [u32], at: u32)
     requires { (k : ℕ) → get_or pt.old k 0 < 4294967295 }
     ensures { pt.new ≡ map (shifted at) pt.old }
 {
-    let mut i: usize = 0;
-    while i < pt.len() {
-        let k = pt[i];
-        let v = moved(at, k);
-        pt[i] = v;
-        i += 1;
+    for k in pt.iter_mut() {
+        *k = moved(at, *k);
     }
 }
 
@@ -68,27 +57,21 @@ fn insert_row(rt: &mut [u32], n: usize, at: usize, r: Record)
     requires { (at ≤ n) × RecordsIn (suc n) rt.old }
     ensures { RecordsLaid rt.old (put_in at r (take n (record_rows_of rt.old)) ++ drop (n + 1) (record_rows_of rt.old)) rt.new }
 {
-    let mut k = n;
-    while at < k {
-        let j = k - 1;
-        let x = rows::record_at(rt, j);
-        rows::set_record(rt, k, x);
-        k = j;
+    for k in (at..n).rev() {
+        let x = rows::record_at(rt, k);
+        rows::set_record(rt, k + 1, x);
     }
     rows::set_record(rt, at, r);
 }
 
 // A page is put at a place of the slab.
+#[tactic(auto, unfolding(model::specs::Store::with_page))]
 pub fn put_page(slab: &mut [u8], p: usize, page: &[u8])
     requires { (length page.now ≡ 256) × (256 * p + 256 ≤ length slab.old) }
     ensures { slab.new ≡ with_page slab.old p page.now }
 {
     let base = 256 * p;
-    let mut i: usize = 0;
-    while i < page.len() {
-        slab[base + i] = page[i];
-        i += 1;
-    }
+    slab[base..base + 256].copy_from_slice(page);
 }
 
 // The record that stands at (a, t) already, of n records of which c are up to (a, t); where there is none, c is the row for a new one.
@@ -132,7 +115,7 @@ fn write_new(
         return rows::refused(head, 5);
     }
     let free = first_free(pt, *low);
-    let Free::At(p) = free else {
+    let Some(p) = free else {
         *low = pt.len();
         return rows::refused(head, 6);
     };

@@ -22,6 +22,6 @@ loop-k-preserved c =
 pub returns : goal.returns
 returns c =
     let rt = c.args.rt.now in
-    let z : c.args.at ≡ c.loop-k.k = omega (arith, c.loop-k.invariant.0.from, c.loop-k-test) in
+    let z : c.args.at ≡ c.loop-k.k = omega (arith, c.loop-k.invariant.0.from, c.loop-k-test.false) in
     rw (← moved_all (record_rows_of rt) (record_rows_of c.loop-k.rt) _ c.args.n c.args.at c.loop-k.k c.loop-k.invariant.0 (omega (arith, record_count rt, c.requires)) c.args.r z (set_rows record_kind c.set_record-2.ensures))
     (own_then record_kind c.loop-k.invariant.2 c.loop-k.invariant.1 (set_own record_kind c.set_record-2.ensures))

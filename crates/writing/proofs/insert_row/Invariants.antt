@@ -6,6 +6,3 @@ use Rattle.writing.proofs.insert_row.Given as goal
 
 abbrev pub invariant-loop-k : goal.invariant-loop-k
 invariant-loop-k l = Moved (record_rows_of l.initial.rt) (record_rows_of l.rt) l.n l.at l.k × (length l.rt ≡ length l.initial.rt) × RecordsLaid l.initial.rt (record_rows_of l.rt) l.rt
-
-abbrev pub decreases-loop-k : goal.decreases-loop-k
-decreases-loop-k l = l.k
