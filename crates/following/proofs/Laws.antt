@@ -3,25 +3,16 @@ use mathlib.Core.Path.{◌≡◌}
 use mathlib.Core.List.{List}
 use Prim.Native.Nat.{ℕ}
 use native.Mathlib.Omega.{arith}
-use borrow.Author.Tests.{ne_eqb}
 use Rattle.model.specs.Store.{Store}
 use Rattle.model.specs.Wire.{Request, write, mark, revert, read_at, reclaim, give, withdraw}
 use Rattle.model.specs.Step.{step}
 use Rattle.model.specs.ByNumber.{Whole}
-use Rattle.live.specs.Live.{LiveDisk, follows, following}
+use Rattle.live.specs.Live.{LiveDisk}
 use Rattle.live.specs.Fit.{Fit}
 use Rattle.live.proofs.Behind.{write_inside}
 use Rattle.wire.specs.declared.Request as wire
 use Rattle.wire.specs.Requests.{request_of}
 use Rattle.following.specs.Lands.{Lands}
-
--- a refused request, and an accepted one of a certain kind
-module _ (d : LiveDisk) (part : List ℕ) (q : wire.Request) (refusal : ℕ) where
-  pub follow_none : (refusal ≡ 0 → ⊥) → d ≡ following d (request_of part q) refusal
-  follow_none ne = rw (ne_eqb refusal 0 ne)
-
-  pub follow_done : refusal ≡ 0 → {v : wire.Request} → q ≡ v → {x : LiveDisk} → x ≡ follows d (request_of part v) → x ≡ following d (request_of part q) refusal
-  follow_done z e h = rw (z, e) h
 
 pub lands_as : (d : LiveDisk) (part : List ℕ) (q : wire.Request) {v : wire.Request} → q ≡ v → Lands (request_of part q) d → Lands (request_of part v) d
 lands_as d part q e h = rw e at h

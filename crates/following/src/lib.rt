@@ -12,11 +12,8 @@ use wire::Request;
 fn stale_all(marks: &mut [u8])
     ensures { marks.new ≡ map staled marks.old }
 {
-    let mut i: usize = 0;
-    while i < marks.len() {
-        let m = marks[i];
-        marks[i] = m - m % 2;
-        i += 1;
+    for m in marks.iter_mut() {
+        *m -= *m % 2;
     }
 }
 
