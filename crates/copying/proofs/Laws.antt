@@ -46,7 +46,7 @@ left_behind s d a = by (found_now s a)
     by none = drop-set-lt (suc a) d.marks a 3 (omega arith)
     by (some r) = drop-set-lt (suc a) d.marks a 1 (omega arith)
 
-abbrev at : Head → List ℕ → List ℕ → List ℕ → List ℕ → List ℕ → Store
+abbrev pub at : Head → List ℕ → List ℕ → List ℕ → List ℕ → List ℕ → Store
 at head bt rt slab pt nt = store_of head (tables bt rt pt nt slab)
 
 -- at an address: what is left to copy gives what the whole gives

@@ -43,22 +43,17 @@ fn copy_pages(
     requires { Stocked head bt.now rt.now slab.now (disk_of disk.old marks.old) }
     ensures { (pt nt : List ℕ) → CopiesPages (store_of head (tables bt.now rt.now pt nt slab.now)) (disk_of disk.old marks.old) budget result (disk_of disk.new marks.new) }
 {
-    let size = head.size;
     let mut count: u32 = 0;
-    let mut a: u32 = 0;
-    while a < size {
+    for a in 0..head.size {
         if budget <= count {
             return count;
         }
-        let i = a as usize;
-        let mark = marks[i];
+        let mark = marks[a as usize];
         if mark % 2 == 1 {
-            a += 1;
             continue;
         }
         bring(head, bt, rt, slab, disk, marks, a);
         count += 1;
-        a += 1;
     }
     count
 }
