@@ -13,6 +13,7 @@ use Rattle.model.specs.Soundness.{table_check}
 use Rattle.model.proofs.Base.{case}
 use Rattle.rows.specs.View.{Tables, store_of}
 use Rattle.soundness.specs.Check.{whole_tables, check_of}
+use Rattle.soundness.proofs.Checked.{passed}
 use Rattle.work_orders.specs.Orders.{work_orders, list_refusal, listed_in, listing}
 use Rattle.listing.specs.Lists.{listing_of, Lists}
 
@@ -38,7 +39,13 @@ module _ (head : Head) (t : Tables) (m : ℕ) (area : List ℕ) where
       by_refusal w n (rw (c, ne_eqb n 0 ne)) ne)
       (λ w. let z : n ≡ 1 = rw w at e in rw (w, z) (record { report = refl; area_is = refl }))
 
-  module _ (w : whole_tables t ≡ true) (c : table_check S ≡ 0) where
+  module _ (checked : check_of head t ≡ 0) where
+    w : whole_tables t ≡ true
+    w = (passed head t checked).0
+
+    c : table_check S ≡ 0
+    c = (passed head t checked).1
+
     pub list_below : readable S m ≡ false → Refuses 8
     unfolding list_refusal
     list_below r = by_refusal w 8 (rw (c, r)) (λ z. omega (arith, z))

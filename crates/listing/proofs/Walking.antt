@@ -15,15 +15,20 @@ use Rattle.model.specs.ByNumber.{branch, newest_of}
 use Rattle.model.proofs.Base.{case}
 use Rattle.model.proofs.Packing.{length_bytes}
 use Rattle.model.proofs.Ancestry.{Holds, holds→, →holds, not_holds}
+use Rattle.rows.specs.Rows.{branch_rows_of, BranchesIn}
+use Rattle.rows.proofs.Laws.{branch_count}
 use Rattle.holding.proofs.Chain.{top_row}
 use Rattle.work_orders.specs.Orders.{way_in, orders_in, order_bytes, listed_in}
 use Rattle.work_orders.proofs.Way.{orders_hold, orders_skip}
 use Rattle.work_orders.proofs.Written.{length_orders, orders_append, one_order}
 
--- the row before i, as it was read
-module _ (rows : List Branch) (i t : ℕ) (pos : 0 < i) (room : i ≤ length rows) (b : Branch) (read : b ≡ branch rows (i - 1)) where
+-- the row before i, as it was read, of the first n rows of a table
+module _ (bt : List ℕ) (n i t : ℕ) (counted : BranchesIn n bt) (within : i ≤ n) (pos : 0 < i) (b : Branch) (read : b ≡ branch (branch_rows_of bt) (i - 1)) where
+  abbrev rows : List Branch
+  rows = branch_rows_of bt
+
   top_is : newest_of rows i ≡ b ∷ newest_of rows (i - 1)
-  top_is = top_row rows i pos room ∙ ap (λ (x : Branch). x ∷ newest_of rows (i - 1)) (sym read)
+  top_is = top_row rows i pos (omega (arith, branch_count bt, counted)) ∙ ap (λ (x : Branch). x ∷ newest_of rows (i - 1)) (sym read)
 
   -- it does not hold the moment
   pub walk_low : t < b.start → orders_in (newest_of rows i) t ≡ orders_in (newest_of rows (i - 1)) t

@@ -18,11 +18,9 @@ fn count_orders(bt: &[u32], n: usize, when: u32) -> usize
     requires { BranchesIn n bt.now }
     ensures { result ≡ length (orders_in (newest_of (branch_rows_of bt.now) n) when) }
 {
-    let mut i = n;
     let mut t = when;
     let mut count: usize = 0;
-    while 0 < i {
-        i -= 1;
+    for i in (0..n).rev() {
         let b = rows::branch_at(bt, i);
         if t < b.start {
             continue;
@@ -42,8 +40,9 @@ fn put_order(list: &mut [u8], k: usize, w: u32)
     ensures { list.new ≡ sets list.old (k * 2) (bytes 2 w) }
 {
     let at = k * 2;
-    list[at] = (w / 256 % 256) as u8;
-    list[at + 1] = (w % 256) as u8;
+    let [_, _, high, low] = w.to_be_bytes();
+    list[at] = high;
+    list[at + 1] = low;
 }
 
 // The work orders of a moment, of the first n branches, to the front of the list.
@@ -52,11 +51,9 @@ fn put_orders(bt: &[u32], n: usize, when: u32, list: &mut [u8])
     requires when_in_bounds { 2 * length (orders_in (newest_of (branch_rows_of bt.now) n) when) ≤ length list.old }
     ensures { list.new ≡ listed_in (orders_in (newest_of (branch_rows_of bt.now) n) when) list.old }
 {
-    let mut i = n;
     let mut t = when;
     let mut k: usize = 0;
-    while 0 < i {
-        i -= 1;
+    for i in (0..n).rev() {
         let b = rows::branch_at(bt, i);
         if t < b.start {
             continue;

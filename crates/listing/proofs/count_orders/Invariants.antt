@@ -8,8 +8,7 @@ use Rattle.listing.proofs.count_orders.Given as goal
 
 -- what is counted, and what is left to count, are the work orders of the moment
 abbrev pub invariant-loop-i : goal.invariant-loop-i
-invariant-loop-i l =
-    (l.count + l.i ≤ l.n) × (l.count + length (orders_in (newest_of (branch_rows_of l.bt) l.i) l.t) ≡ length (orders_in (newest_of (branch_rows_of l.bt) l.n) l.when))
-
-abbrev pub decreases-loop-i : goal.decreases-loop-i
-decreases-loop-i l = l.i
+invariant-loop-i l = record {
+  few : l.count + l.i ≤ l.n;
+  left : l.count + length (orders_in (newest_of (branch_rows_of l.bt) l.i) l.t) ≡ length (orders_in (newest_of (branch_rows_of l.bt) l.n) l.when);
+}
