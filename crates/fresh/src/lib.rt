@@ -16,14 +16,11 @@ pub struct Made {
 }
 
 // A table becomes zeros.
+#[tactic(auto, unfolding(rows::specs::Rows::zeros))]
 fn clear(t: &mut [u32])
     ensures { t.new ≡ zeros (length t.old) }
 {
-    let mut i: usize = 0;
-    while i < t.len() {
-        t[i] = 0;
-        i += 1;
-    }
+    t.fill(0);
 }
 
 // A fresh store of `size` pages over what is lent, whatever it holds; the slab is not read but for its length.
