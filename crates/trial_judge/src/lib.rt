@@ -5,3 +5,4 @@ mod checks;
 pub mod judge;
 pub mod live;
 pub mod orders;
+mod stop;

@@ -1,37 +1,31 @@
 // The live disk against the reference: live reads, copying steps, and the disk and its marks after each call.
 ghost use Rattle.std.specs.Prelude.{◌≡◌, get_or};
 
-use crate::judge::{others, same};
+use crate::judge::{count_unless, is_filled};
+use trial_reference::live;
+use trial_reference::refusals::Refusal;
 use trial_words::layout::{
     BUDGET, Bytes, COPIED, DUE, LIVE_READS, MARK_TABLE, Numbers, SIZE, TOUCHED, WRONG, disk_page,
     live_at,
 };
-use trial_words::words::{add, byte, get, minus, number_at, plus};
+use trial_words::words::{add, byte, get, number_at, plus};
 
-// How much is wrong of n pages of the disk and their marks.
-pub(crate) fn disk_wrong(w: &Numbers, b: &Bytes, n: u32) -> u32 {
-    let mut wrong: u32 = 0;
-    for a in 0..n {
-        wrong = plus(wrong, page_wrong(w, b, a));
-    }
-    wrong
+// Whether the pages of the disk and their marks are those due.
+pub(crate) fn disk_right(w: &Numbers, b: &Bytes) -> bool {
+    (0..get(w, SIZE)).all(|a| page_right(w, b, a))
 }
 
-fn page_wrong(w: &Numbers, b: &Bytes, a: u32) -> u32 {
-    let bytes = others(b, disk_page(a), 256, trial_reference::live::filling(w, a));
-    if get(w, plus(MARK_TABLE, a)) == trial_reference::live::mark(w, a) {
-        bytes
-    } else {
-        plus(bytes, 1)
-    }
+// Whether a page of the disk and its mark are those due.
+fn page_right(w: &Numbers, b: &Bytes, a: u32) -> bool {
+    get(w, plus(MARK_TABLE, a)) == live::mark(w, a)
+        && is_filled(b, disk_page(a), 256, live::filling(w, a))
 }
 
 // A batch that only reads leaves the disk and its marks. Answers the differences in the list so far.
 pub fn judge_kept(w: &mut Numbers) -> u32
     ensures { result ≡ get_or w.new 51 0 }
 {
-    let touched = get(w, TOUCHED + 5);
-    same(w, touched, 0);
+    count_unless(w, get(w, TOUCHED + 5) == 0);
     number_at(w, WRONG)
 }
 
@@ -39,12 +33,10 @@ pub fn judge_kept(w: &mut Numbers) -> u32
 pub fn judge(w: &mut Numbers, b: &Bytes) -> u32
     ensures { result ≡ get_or w.new 51 0 }
 {
-    let size = get(w, SIZE);
-    judge_reads(w, b, plus(size, 1), 0);
-    let count = trial_reference::live::step(w, get(w, BUDGET));
+    judge_reads(w, b, 0);
+    let count = live::step(w, get(w, BUDGET));
     judge_step(w, 0, count);
-    let wrong = disk_wrong(w, b, size);
-    same(w, wrong, 0);
+    count_unless(w, disk_right(w, b));
     number_at(w, WRONG)
 }
 
@@ -54,67 +46,71 @@ pub fn judge_refused(w: &mut Numbers, b: &Bytes) -> u32
     ensures { result ≡ get_or w.new 51 0 }
 {
     let due = get(w, DUE);
-    judge_reads(w, b, plus(get(w, SIZE), 1), due);
+    judge_reads(w, b, due);
     judge_step(w, due, 0);
     judge_kept(w)
 }
 
+// What a step reported: its refusal and its count.
 fn judge_step(w: &mut Numbers, refusal: u32, count: u32) {
-    let given = get(w, COPIED);
-    same(w, given, refusal);
-    let copied = get(w, COPIED + 1);
-    same(w, copied, count);
+    count_unless(w, get(w, COPIED) == refusal);
+    count_unless(w, get(w, COPIED + 1) == count);
 }
 
 // Every address, and the one behind the last.
-fn judge_reads(w: &mut Numbers, b: &Bytes, n: u32, refused: u32) {
-    for a in 0..n {
-        judge_read(w, b, a, refused);
+fn judge_reads(w: &mut Numbers, b: &Bytes, refused: u32) {
+    let size = get(w, SIZE);
+    for a in 0..plus(size, 1) {
+        judge_read(w, b, a, refusal_due(a, size, refused));
     }
 }
 
-fn judge_read(w: &mut Numbers, b: &Bytes, a: u32, refused: u32) {
-    let refusal = refusal_due(w, a, refused);
-    let page: u32 = if refusal == 0 {
-        trial_reference::live::page_now(w, a)
+// The refusal that is due of a live read.
+// Kept: a number, since it is the stop that stands in the flat table, or the refusal of an address.
+fn refusal_due(a: u32, size: u32, refused: u32) -> u32 {
+    if refused == 0 && a >= size {
+        Refusal::Address as u32
     } else {
-        0
+        refused
+    }
+}
+
+// The refusal, then the page due, or an empty part.
+fn judge_read(w: &mut Numbers, b: &Bytes, a: u32, refusal: u32) {
+    let page = if refusal == 0 {
+        live::page_now(w, a)
+    } else {
+        None
     };
     let kind = kind_of(w, a, refusal, page);
-    add(w, LIVE_READS + kind % 8, 1);
-    let given = byte(b, plus(live_at(a), 256));
-    same(w, given, refusal);
-    judge_page(w, b, live_at(a), page);
-}
-
-fn refusal_due(w: &Numbers, a: u32, refused: u32) -> u32 {
-    if refused != 0 {
-        return refused;
-    }
-    if a < get(w, SIZE) { 0 } else { 4 }
-}
-
-// The page due, or an empty part.
-fn judge_page(w: &mut Numbers, b: &Bytes, at: u32, page: u32) {
-    let given = byte(b, plus(at, 257));
-    if page == 0 {
-        same(w, given, 0);
-    } else {
-        same(w, given, 1);
-        let wrong = others(b, at, 256, minus(page, 1));
-        same(w, wrong, 0);
+    add(w, LIVE_READS + kind as u32, 1);
+    let at = live_at(a);
+    count_unless(w, byte(b, plus(at, 256)) == refusal);
+    count_unless(w, byte(b, plus(at, 257)) == u32::from(page.is_some()));
+    if let Some(byte) = page {
+        count_unless(w, is_filled(b, at, 256, byte));
     }
 }
 
-// What a live read gives: 0 a page of the disk, 1 a blank one, 2 a stored page, 3 none stored, 4 a refusal.
-fn kind_of(w: &Numbers, a: u32, refusal: u32, page: u32) -> u32 {
+// What a live read gives: a page of the disk, a blank one, a stored page, none stored, a refusal.
+#[derive(Clone, Copy, PartialEq, Eq)]
+enum Kind {
+    Disk,
+    Blank,
+    Stored,
+    NoneStored,
+    Refused,
+}
+
+// A current page is read from the disk, a stale one from the slab.
+fn kind_of(w: &Numbers, a: u32, refusal: u32, page: Option<u32>) -> Kind {
     if refusal != 0 {
-        return 4;
+        return Kind::Refused;
     }
-    let stale: u32 = if trial_reference::live::mark(w, a) % 2 == 0 {
-        2
-    } else {
-        0
-    };
-    if page == 0 { plus(stale, 1) } else { stale }
+    match (live::is_current(w, a), page) {
+        (true, Some(_)) => Kind::Disk,
+        (true, None) => Kind::Blank,
+        (false, Some(_)) => Kind::Stored,
+        (false, None) => Kind::NoneStored,
+    }
 }

@@ -1,83 +1,74 @@
 // The lists of requests: every short one over an alphabet, and long ones from a generator; and the lists of work orders to ask for.
-ghost use Rattle.std.specs.Prelude.{◌≡◌, ◌+◌, ◌%◌, ◌^◌, length, get_or};
+ghost use Rattle.std.specs.Prelude.{◌≡◌, ◌+◌, ◌*◌, ◌%◌, ◌^◌, length, get_or};
 
+use trial_reference::{names, orders};
 use trial_words::layout::{
-    AREA, ASKED, ASKS, BUDGET, BUDGET_SEED, CALLED, COUNT, CUT, FIRST, FLOOR, HEAD_FLOOR, HEAD_NOW,
-    LAST, LENGTH, LIST_COUNT, MODE, NAME_TABLE, NAMES, NOW, NUMBER, Numbers, ORDER_SEED,
-    PAGE_ANSWER, SEED, SIZE,
+    AREA, ASKED, BUDGET, BUDGET_SEED, CALLED, COUNT, CUT, FIRST, FLOOR, HEAD_FLOOR, HEAD_NOW, LAST,
+    LENGTH, LIST_COUNT, MODE, Mode, NAME_TABLE, NAMES, NOW, NUMBER, Numbers, ORDER_SEED,
+    PAGE_ANSWER, SEED, SIZE, asked_at,
 };
-use trial_words::request::{Request, plain, put_request};
+use trial_words::request::{Operation, Request, put_request};
 use trial_words::words::{get, minus, number_at, plus, put, put_two, remainder};
 
 // The letters of the alphabets: the first 7, 10 or 18, or 5 from the 18th on; of those that name moments, the first 7 or all 10 from the
 // 23rd on, or 5 from the 33rd on.
 fn letter(k: u32) -> Request {
     match k {
-        0 => plain(1, 0, 0, 1),
-        1 => plain(2, 0, 0, 0),
-        2 => plain(3, 0, 0, 0),
-        3 => plain(3, 0, 1, 0),
-        4 => plain(5, 0, 1, 0),
-        5 => plain(5, 0, 2, 0),
-        6 => plain(1, 1, 0, 2),
-        7 => plain(1, 0, 0, 2),
-        8 => plain(3, 0, 2, 0),
-        9 => plain(5, 0, 3, 0),
-        10 => plain(1, 1, 0, 1),
-        11 => plain(3, 0, 3, 0),
-        12 => plain(5, 0, 0, 0),
-        13 => plain(4, 0, 0, 0),
-        14 => plain(4, 0, 1, 0),
-        15 => plain(4, 0, 2, 0),
-        16 => plain(4, 1, 3, 0),
-        17 => plain(1, 2, 0, 1),
-        18 => plain(1, 0, 0, 1),
-        19 => plain(2, 0, 0, 0),
-        20 => plain(3, 0, 0, 0),
-        21 => plain(5, 0, 1, 0),
-        22 => plain(4, 0, 0, 0),
+        0 => Request::write(0, 1),
+        1 => Request::mark(),
+        2 => Request::revert(0),
+        3 => Request::revert(1),
+        4 => Request::reclaim(1),
+        5 => Request::reclaim(2),
+        6 => Request::write(1, 2),
+        7 => Request::write(0, 2),
+        8 => Request::revert(2),
+        9 => Request::reclaim(3),
+        10 => Request::write(1, 1),
+        11 => Request::revert(3),
+        12 => Request::reclaim(0),
+        13 => Request::read(0, 0),
+        14 => Request::read(0, 1),
+        15 => Request::read(0, 2),
+        16 => Request::read(1, 3),
+        17 => Request::write(2, 1),
+        18 => Request::write(0, 1),
+        19 => Request::mark(),
+        20 => Request::revert(0),
+        21 => Request::reclaim(1),
+        22 => Request::read(0, 0),
         _ => naming_letter(minus(k, 23)),
     }
 }
 
 fn naming_letter(k: u32) -> Request {
     match k {
-        0 => plain(1, 0, 0, 1),
-        1 => plain(2, 0, 0, 0),
-        2 => plain(3, 0, 0, 0),
-        3 => plain(5, 0, 1, 0),
-        4 => plain(6, 0, 0, 1),
-        5 => plain(7, 0, 0, 1),
-        6 => plain(6, 0, 0, 0),
-        7 => plain(6, 0, 1, 0),
-        8 => plain(7, 0, 0, 0),
-        9 => plain(5, 0, 2, 0),
-        10 => plain(2, 0, 0, 0),
-        11 => plain(6, 0, 0, 17),
-        12 => plain(6, 0, 0, 1),
-        13 => plain(7, 0, 0, 17),
-        _ => plain(3, 0, 0, 0),
+        0 => Request::write(0, 1),
+        1 => Request::mark(),
+        2 => Request::revert(0),
+        3 => Request::reclaim(1),
+        4 => Request::give_name(0, 1),
+        5 => Request::withdraw_name(1),
+        6 => Request::give_name(0, 0),
+        7 => Request::give_name(1, 0),
+        8 => Request::withdraw_name(0),
+        9 => Request::reclaim(2),
+        10 => Request::mark(),
+        11 => Request::give_name(0, 17),
+        12 => Request::give_name(0, 1),
+        13 => Request::withdraw_name(17),
+        _ => Request::revert(0),
     }
 }
 
 // A request is listed; a revert gets a work order.
 fn put_ordered(w: &mut Numbers, k: u32, r: Request) {
-    let address: u32 = if r.operation == 3 {
+    let address = if r.operation == Operation::Revert as u32 {
         drawn_order(w)
     } else {
         r.address
     };
-    put_request(
-        w,
-        k,
-        Request {
-            operation: r.operation,
-            address,
-            moment: r.moment,
-            value: r.value,
-            spare: r.spare,
-        },
-    );
+    put_request(w, k, Request { address, ..r });
 }
 
 // One of 0, 1, 255, 256 and 65,535, or any of 16 bits.
@@ -106,7 +97,7 @@ pub fn spell(w: &mut Numbers, number: u32, letters: u32)
     let mut rest = number;
     for k in 0..8u32 {
         put(w, letter_at(k), remainder(rest, letters));
-        rest = quotient(rest, letters);
+        rest = rest.checked_div(letters).unwrap_or(0);
     }
 }
 
@@ -115,13 +106,8 @@ fn put_letter(w: &mut Numbers, k: u32, from: u32) {
     put_ordered(w, k, letter(l));
 }
 
-fn put_letters(w: &mut Numbers, n: u32) {
-    for k in 0..n {
-        put_letter(w, k, k);
-    }
-}
-
 // How many batches a list is handed in with: each request by itself, all at once, or as many as the family says.
+// Kept: the clause has 1 for each odd number, also where it is no mode's.
 pub fn batches(w: &Numbers) -> u32
     ensures { get_or w.now 40 0 % 2 ≡ 1 → result ≡ 1 }
 {
@@ -132,67 +118,76 @@ pub fn batches(w: &Numbers) -> u32
     }
 }
 
-// The requests of the j-th batch of the list, and how much space its answers get. Answers how many.
+// A batch: how many requests, how much space its answers get, and by what its bytes are cut.
+fn set_batch(w: &mut Numbers, count: u32, area: u32, cut: u32) {
+    put(w, COUNT, count);
+    put(w, AREA, area);
+    put(w, CUT, cut);
+}
+
+// The space for so many answers with a page.
+fn whole_area(n: u32) -> u32
+    ensures { result ≡ n % 16 * 265 }
+{
+    n % 16 * PAGE_ANSWER
+}
+
+// The requests of the j-th batch of the list, how much space its answers get and by what it is cut: by the list's number, where each space
+// or each cut is tried. Answers how many requests.
 pub fn list_batch(w: &mut Numbers, j: u32) -> u32
     ensures { result ≡ get_or w.new 28 0 }
 {
-    let mode = get(w, MODE);
     let n = get(w, LENGTH);
-    match mode {
-        0 => list_one(w, j),
-        1 => list_all(w, n),
-        3 => list_cut(w, n),
-        4 => list_back(w),
-        5 => list_space(w, n),
-        _ => list_drawn(w),
+    let tried = get(w, NUMBER) / 125;
+    match Mode::from(get(w, MODE)) {
+        Mode::Each => list_one(w, j),
+        Mode::All => list_all(w, n, whole_area(n), 0),
+        Mode::Drawn => list_drawn(w),
+        Mode::Cut => list_all(w, n, whole_area(n), tried),
+        Mode::Back => list_back(w),
+        Mode::Space => list_all(w, n, tried, 0),
     }
     number_at(w, COUNT)
 }
 
+// The j-th letter by itself.
 fn list_one(w: &mut Numbers, j: u32) {
     put_letter(w, 0, j);
-    put(w, COUNT, 1);
-    put(w, AREA, PAGE_ANSWER + 3);
-    put(w, CUT, 0);
+    set_batch(w, 1, PAGE_ANSWER + 3, 0);
 }
 
-fn list_all(w: &mut Numbers, n: u32) {
-    put_letters(w, n);
-    put(w, COUNT, n);
-    put(w, AREA, n % 16 * PAGE_ANSWER);
-    put(w, CUT, 0);
-}
-
-// The whole list, cut anywhere: at as many bytes as the list's number says.
-fn list_cut(w: &mut Numbers, n: u32) {
-    let by = get(w, NUMBER) / 125;
-    list_all(w, n);
-    put(w, CUT, by);
-}
-
-// The whole list, with as much space for answers as the list's number says.
-fn list_space(w: &mut Numbers, n: u32) {
-    let space = get(w, NUMBER) / 125;
-    list_all(w, n);
-    put(w, AREA, space);
+// All letters of the list.
+fn list_all(w: &mut Numbers, n: u32, area: u32, cut: u32) {
+    for k in 0..n {
+        put_letter(w, k, k);
+    }
+    set_batch(w, n, area, cut);
 }
 
 // Up to 8 requests; one batch of eight is cut anywhere, and in one of six the answers have any space.
 fn list_drawn(w: &mut Numbers) {
     let n = plus(draw(w, SEED, 8), 1);
-    draw_requests(w, n);
-    put(w, COUNT, n);
-    draw_cut(w);
-    draw_area(w, n % 16 * PAGE_ANSWER);
+    for k in 0..n {
+        let r = drawn(w);
+        put_ordered(w, k, r);
+    }
+    let cut = one_of(w, 8, 65536).unwrap_or(0);
+    let area = one_of(w, 6, 700).unwrap_or(whole_area(n));
+    set_batch(w, n, area, cut);
+}
+
+// In one of so many cases a number below n.
+fn one_of(w: &mut Numbers, cases: u32, n: u32) -> Option<u32> {
+    let case = draw(w, SEED, cases);
+    let some = draw(w, SEED, n);
+    (case == 0).then_some(some)
 }
 
 // One request of an operator who sets back.
 fn list_back(w: &mut Numbers) {
     let r = drawn_back(w);
     put_ordered(w, 0, r);
-    put(w, COUNT, 1);
-    put(w, AREA, PAGE_ANSWER);
-    put(w, CUT, 0);
+    set_batch(w, 1, PAGE_ANSWER, 0);
 }
 
 // Seven of sixteen revert, six of them to one of the four moments before now, one to a named one; one reclaims to any moment from the
@@ -206,43 +201,20 @@ fn drawn_back(w: &mut Numbers) -> Request {
     let above = draw(w, SEED, plus(minus(now, floor), 1));
     let before = minus(now, plus(some, 1));
     match kind {
-        0..=5 => plain(3, 0, before, 0),
-        6 => plain(3, 0, trial_reference::names::moment_of(w, row), 0),
-        7 => plain(5, 0, plus(floor, above), 0),
-        8..=10 => plain(1, some, 0, some),
-        11..=13 => plain(2, 0, 0, 0),
-        14 => plain(6, 0, before, some),
-        _ => plain(7, 0, 0, some),
-    }
-}
-
-fn draw_cut(w: &mut Numbers) {
-    let short = draw(w, SEED, 8);
-    let some = draw(w, SEED, 65536);
-    put(w, CUT, if short == 0 { some } else { 0 });
-}
-
-fn draw_area(w: &mut Numbers, whole: u32) {
-    let scant = draw(w, SEED, 6);
-    let space = draw(w, SEED, 700);
-    put(w, AREA, if scant == 0 { space } else { whole });
-}
-
-fn draw_request(w: &mut Numbers, k: u32) {
-    let r = drawn(w);
-    put_ordered(w, k, r);
-}
-
-fn draw_requests(w: &mut Numbers, n: u32) {
-    for k in 0..n {
-        draw_request(w, k);
+        0..=5 => Request::revert(before),
+        6 => Request::revert(names::moment_of(w, row)),
+        7 => Request::reclaim(plus(floor, above)),
+        8..=10 => Request::write(some, some),
+        11..=13 => Request::mark(),
+        14 => Request::give_name(before, some),
+        _ => Request::withdraw_name(some),
     }
 }
 
 // Reverts and reclaims are the bulk. One in 64 has a bad operation, a spare bit or a field that its operation does not use.
 fn drawn(w: &mut Numbers) -> Request {
     let kind = draw(w, SEED, 64);
-    let address = draw(w, SEED, plus(get(w, SIZE), past_end(kind)));
+    let address = draw(w, SEED, plus(get(w, SIZE), u32::from(kind % 8 == 0)));
     let value = draw(w, SEED, 256);
     let moment = drawn_moment(w, often(kind));
     if kind == 0 {
@@ -260,19 +232,15 @@ fn drawn_naming(w: &mut Numbers, r: Request, moment: u32) -> Request {
     let kind = draw(w, SEED, 16);
     let name = draw(w, SEED, get(w, CALLED));
     let row = draw(w, SEED, plus(get(w, NAMES), 1));
-    let named = trial_reference::names::moment_of(w, row);
+    let named = names::moment_of(w, row);
     match kind {
-        0..=2 => plain(6, 0, moment, name),
-        3 => plain(6, 0, named, name),
-        4..=5 => plain(7, 0, 0, name),
-        6 => plain(4, 0, named, 0),
-        7 => plain(3, 0, named, 0),
+        0..=2 => Request::give_name(moment, name),
+        3 => Request::give_name(named, name),
+        4..=5 => Request::withdraw_name(name),
+        6 => Request::read(0, named),
+        7 => Request::revert(named),
         _ => r,
     }
-}
-
-fn past_end(kind: u32) -> u32 {
-    if kind % 8 == 0 { 1 } else { 0 }
 }
 
 fn often(kind: u32) -> u32 {
@@ -281,11 +249,11 @@ fn often(kind: u32) -> u32 {
 
 fn of_kind(kind: u32, address: u32, value: u32, moment: u32) -> Request {
     match kind {
-        0..=19 => plain(3, 0, moment, 0),
-        20..=34 => plain(5, 0, moment, 0),
-        35..=51 => plain(1, address, 0, value),
-        52..=57 => plain(2, 0, 0, 0),
-        _ => plain(4, address, moment, 0),
+        0..=19 => Request::revert(moment),
+        20..=34 => Request::reclaim(moment),
+        35..=51 => Request::write(address, value),
+        52..=57 => Request::mark(),
+        _ => Request::read(address, moment),
     }
 }
 
@@ -321,31 +289,19 @@ pub fn list_reads(w: &mut Numbers, moment: u32) -> u32
     ensures { result ≡ get_or w.new 28 0 }
 {
     let size = get(w, SIZE);
-    read_each(w, size, moment);
-    put(w, COUNT, size);
-    put(w, AREA, size % 16 * PAGE_ANSWER);
-    put(w, CUT, 0);
-    number_at(w, COUNT)
-}
-
-fn list_read(w: &mut Numbers, a: u32, moment: u32) {
-    put_request(w, a, plain(4, a, moment, 0));
-}
-
-fn read_each(w: &mut Numbers, size: u32, moment: u32) {
     for a in 0..size {
-        list_read(w, a, moment);
+        put_request(w, a, Request::read(a, moment));
     }
+    set_batch(w, size, whole_area(size), 0);
+    number_at(w, COUNT)
 }
 
 // One mark, for a batch on a changed store. Answers how many requests that is.
 pub fn list_mark(w: &mut Numbers) -> u32
     ensures { result ≡ get_or w.new 28 0 }
 {
-    put_request(w, 0, plain(2, 0, 0, 0));
-    put(w, COUNT, 1);
-    put(w, AREA, PAGE_ANSWER + 3);
-    put(w, CUT, 0);
+    put_request(w, 0, Request::mark());
+    set_batch(w, 1, PAGE_ANSWER + 3, 0);
     number_at(w, COUNT)
 }
 
@@ -368,13 +324,11 @@ pub fn moments(w: &Numbers) -> u32
 }
 
 fn moment_asked(w: &Numbers, j: u32) -> u32 {
-    if j == 0 {
-        return minus(trial_reference::floor(w), 1);
+    match j {
+        0 => minus(trial_reference::floor(w), 1),
+        1 => plus(trial_reference::now(w), 1),
+        _ => trial_reference::moment_read(w, plus(get(w, FLOOR), minus(j, 2))),
     }
-    if j == 1 {
-        return plus(trial_reference::now(w), 1);
-    }
-    trial_reference::moment_read(w, plus(get(w, FLOOR), minus(j, 2)))
 }
 
 // Lists of work orders, from the j-th of the moments on, of 16 at most. Answers how many lists.
@@ -382,21 +336,15 @@ pub fn list_orders(w: &mut Numbers, from: u32) -> u32
     ensures { result ≡ get_or w.new 639 0 }
 {
     put(w, ASKED, 0);
-    ask_each(w, from, moments(w));
-    number_at(w, ASKED)
-}
-
-fn ask_each(w: &mut Numbers, from: u32, n: u32) {
-    for k in 0..16u32 {
-        if plus(from, k) < n {
-            ask_at(w, moment_asked(w, plus(from, k)));
-        }
+    for j in from..moments(w).min(from.saturating_add(16)) {
+        ask_at(w, moment_asked(w, j));
     }
+    number_at(w, ASKED)
 }
 
 // At a moment: a list that fits exactly, one with a byte less, and one with one to eight bytes more; at one that is refused only the last.
 fn ask_at(w: &mut Numbers, moment: u32) {
-    let due = trial_reference::orders::expect(w, moment);
+    let due = orders::expect(w, moment);
     let fits = get(w, LIST_COUNT) % 32 * 2;
     let more = draw(w, ORDER_SEED, 8);
     if due == 0 {
@@ -409,7 +357,7 @@ fn ask_at(w: &mut Numbers, moment: u32) {
 // One list more, of at most so many bytes.
 fn ask(w: &mut Numbers, moment: u32, bytes: u32) {
     let n = get(w, ASKED);
-    put_two(w, ASKS + n % 48 * 2, moment, bytes);
+    put_two(w, asked_at(n), moment, bytes);
     put(w, ASKED, plus(n, 1));
 }
 
@@ -418,12 +366,12 @@ pub fn list_changed(w: &mut Numbers) -> u32
     ensures { result ≡ get_or w.new 639 0 }
 {
     let now = get(w, HEAD_NOW);
+    let floor = get(w, HEAD_FLOOR);
+    let named = get(w, NAME_TABLE + 2);
     put(w, ASKED, 0);
-    ask_some(w, now);
-    ask_some(w, get(w, HEAD_FLOOR));
-    ask_some(w, plus(now, 1));
-    ask_some(w, 0);
-    ask_some(w, get(w, NAME_TABLE + 2));
+    for moment in [now, floor, plus(now, 1), 0, named] {
+        ask_some(w, moment);
+    }
     number_at(w, ASKED)
 }
 
@@ -433,17 +381,9 @@ fn ask_some(w: &mut Numbers, moment: u32) {
     ask(w, moment, bytes);
 }
 
-fn quotient(a: u32, b: u32) -> u32 {
-    if b == 0 { 0 } else { a / b }
-}
-
 // The next number of the generator, whose state stands at an index: below n.
 fn draw(t: &mut Numbers, i: u32, n: u32) -> u32 {
-    let s = scrambled(get(t, i));
+    let s = get(t, i).wrapping_mul(69069).wrapping_add(12345);
     put(t, i, s);
     remainder(s / 65536, n)
-}
-
-fn scrambled(s: u32) -> u32 {
-    ((s as u64 * 69069 + 12345) % 4294967296) as u32
 }

@@ -8,14 +8,19 @@ pub mod live;
 pub mod names;
 pub mod orders;
 pub mod places;
+pub mod refusals;
 
-ghost use Rattle.std.specs.Prelude.{◌≡◌, ◌+◌, ◌*◌, ◌%◌, ◌<◌, ◌≤◌, ◌^◌, length, get_or};
+ghost use Rattle.std.specs.Prelude.{◌≡◌, ◌+◌, ◌*◌, ◌%◌, ◌<◌, ◌≤◌, ◌^◌, length, get_or, MatchOption};
+ghost use Rattle.trial_reference.specs.Refusal.{number_of};
 
+use refusals::Refusal;
 use trial_words::layout::{
     BASE, BELOW, BRANCH_ROWS, BRANCHES, FLOOR, HELD, LAST, MOST_NAMES, NAMES, NOW, Numbers,
     PLACE_ROWS, RECORD_ROWS, SIZE, held_at,
 };
-use trial_words::request::{Request, high_of, low_of};
+use trial_words::names::Name;
+use trial_words::request::{Operation, Request};
+use trial_words::rules::need;
 use trial_words::words::{add, get, minus, number_at, plus, put, put_four, put_two};
 
 // A page of a snapshot: 0 or one more than its byte; then the moment of its write.
@@ -73,50 +78,61 @@ fn clear_row(w: &mut Numbers, i: u32)
     put_four(w, page_at(i, 2), 0, 0, 0, 0);
 }
 
-fn copy_page(w: &mut Numbers, from: u32, to: u32, a: u32) {
-    let code = get(w, page_at(from, a));
-    let moment = get(w, plus(page_at(from, a), 1));
-    put_two(w, page_at(to, a), code, moment);
-}
-
 // A new snapshot, now+1, as a copy of a snapshot; it becomes the present one. Answers the moment sealed.
 fn advance(w: &mut Numbers, from: u32) -> u32 {
     let sealed = now(w);
     let to = plus(get(w, NOW), 1);
     clear_row(w, to);
-    copy_all(w, from, to);
+    copy_pages(w, from, to);
     put(w, NOW, to);
     sealed
 }
 
-fn copy_all(w: &mut Numbers, from: u32, to: u32) {
+// The pages of a snapshot become those of another.
+fn copy_pages(w: &mut Numbers, from: u32, to: u32) {
     for a in 0..4u32 {
-        copy_page(w, from, to, a);
+        let code = get(w, page_at(from, a));
+        let moment = get(w, plus(page_at(from, a), 1));
+        put_two(w, page_at(to, a), code, moment);
     }
 }
 
-// The place of a pair; one that was not held before is one more, and takes a place.
-fn place_for(w: &mut Numbers, held: u32) -> u32 {
-    if held == 0 {
-        add(w, HELD, 1);
-        places::take(w)
-    } else {
-        held / 512
-    }
+// A held pair: its place, and the byte of its page.
+#[derive(Clone, Copy, PartialEq, Eq)]
+pub struct Pair {
+    pub place: u32,
+    pub byte: u32,
 }
 
-fn hold(w: &mut Numbers, i: u32, a: u32, code: u32) {
-    let at = held_at(i, a);
-    let place = place_for(w, get(w, at));
-    put(w, at, plus(place % 16 * 512, code));
+// The pair of a snapshot and an address, where it is held.
+pub fn held(w: &Numbers, i: u32, a: u32) -> Option<Pair>
+    ensures { let code = get_or w.now (1024 + i % 256 * 4 + a % 4) 0 in MatchOption result (code ≡ 0) (λ pair. (pair.place * 512 + pair.byte + 1 ≡ code) × (pair.byte < 512)) }
+{
+    let code = number_at(w, held_at(i, a)).checked_sub(1)?;
+    Some(Pair {
+        place: code / 512,
+        byte: code % 512,
+    })
+}
+
+// A pair that was not held before is one more, and takes a place.
+fn hold(w: &mut Numbers, i: u32, a: u32, byte: u32) {
+    let place = match held(w, i, a) {
+        Some(pair) => pair.place,
+        None => {
+            add(w, HELD, 1);
+            places::take(w)
+        }
+    };
+    put(w, held_at(i, a), place % 16 * 512 + byte % 256 + 1);
 }
 
 fn write(w: &mut Numbers, a: u32, value: u32) -> u32 {
     let i = get(w, NOW);
-    let code = value % 256 + 1;
-    hold(w, i, a, code);
-    put_two(w, page_at(i, a), code, i);
-    live::write(w, a, value % 256);
+    let byte = value % 256;
+    hold(w, i, a, byte);
+    put_two(w, page_at(i, a), byte + 1, i);
+    live::write(w, a, byte);
     now(w)
 }
 
@@ -125,7 +141,8 @@ fn mark(w: &mut Numbers) -> u32 {
     advance(w, get(w, NOW))
 }
 
-fn revert(w: &mut Numbers, from: u32, moment: u32, order: u32) -> u32 {
+fn revert(w: &mut Numbers, moment: u32, order: u32) -> u32 {
+    let from = index(w, moment);
     branches::make(w, now(w), moment, order);
     orders::branch_off(w, from, order);
     live::set_back(w);
@@ -143,10 +160,11 @@ fn reclaim(w: &mut Numbers, floor: u32) -> u32 {
     minus(before, get(w, HELD))
 }
 
+// The pairs of the readable snapshots stay: of those from the floor on, and of the named ones.
 fn see_readable(w: &mut Numbers, floor: u32, end: u32) {
     clear_stays(w, end);
     see_all(w, floor, end);
-    see_named(w, get(w, NAMES));
+    see_named(w);
 }
 
 fn clear_stays(w: &mut Numbers, end: u32) {
@@ -155,29 +173,24 @@ fn clear_stays(w: &mut Numbers, end: u32) {
     }
 }
 
-// The pairs of each readable snapshot stay.
 fn see_all(w: &mut Numbers, floor: u32, end: u32) {
     for i in floor..end {
         see_pages(w, i);
     }
 }
 
-fn see_named(w: &mut Numbers, n: u32) {
-    for k in 0..n {
+fn see_named(w: &mut Numbers) {
+    for k in 0..get(w, NAMES) {
         see_pages(w, index(w, names::moment_of(w, k)));
     }
 }
 
+// The pair of each page of a snapshot stays.
 fn see_pages(w: &mut Numbers, i: u32) {
     for a in 0..4u32 {
-        see_page(w, i, a);
-    }
-}
-
-fn see_page(w: &mut Numbers, i: u32, a: u32) {
-    if get(w, page_at(i, a)) != 0 {
-        let moment = get(w, plus(page_at(i, a), 1));
-        put(w, stays_at(moment, a), 1);
+        if get(w, page_at(i, a)) != 0 {
+            put(w, stays_at(get(w, plus(page_at(i, a), 1)), a), 1);
+        }
     }
 }
 
@@ -187,27 +200,23 @@ fn release_all(w: &mut Numbers, end: u32) {
     }
 }
 
+// The held pairs of a moment that do not stay are held no longer, and their places are free.
 fn release_row(w: &mut Numbers, i: u32) {
     for a in 0..4u32 {
-        release(w, i, a);
-    }
-}
-
-fn release(w: &mut Numbers, i: u32, a: u32) {
-    let held = get(w, held_at(i, a));
-    if held != 0 {
-        if get(w, stays_at(i, a)) == 0 {
-            places::give_back(w, held / 512);
+        if let Some(pair) = held(w, i, a)
+            && get(w, stays_at(i, a)) == 0
+        {
+            places::give_back(w, pair.place);
             put(w, held_at(i, a), 0);
-            add(w, HELD, LAST);
+            put(w, HELD, minus(get(w, HELD), 1));
         }
     }
 }
 
 // It is counted where a revert, a read or a naming reaches below the floor.
-fn count_below(w: &mut Numbers, operation: u32, moment: u32) {
+fn count_below(w: &mut Numbers, operation: Operation, moment: u32) {
     if moment < floor(w) {
-        add(w, BELOW + operation % 8, 1);
+        add(w, BELOW + operation as u32, 1);
     }
 }
 
@@ -215,36 +224,41 @@ fn count_below(w: &mut Numbers, operation: u32, moment: u32) {
 pub fn feed(w: &mut Numbers, r: Request) -> u32
     ensures { r.operation ≡ 4 → result ≡ r.moment }
 {
-    let i = index(w, r.moment);
-    let operation = r.operation;
+    let Ok(operation) = Operation::try_from(r.operation) else {
+        return 0;
+    };
     count_below(w, operation, r.moment);
     match operation {
-        1 => write(w, r.address, r.value),
-        2 => mark(w),
-        3 => revert(w, i, r.moment, r.address),
-        4 => r.moment,
-        5 => reclaim(w, i),
-        _ => feed_name(w, operation, r.value, r.moment),
+        Operation::Write => write(w, r.address, r.value),
+        Operation::Mark => mark(w),
+        Operation::Revert => revert(w, r.moment, r.address),
+        Operation::Read => r.moment,
+        Operation::Reclaim => reclaim(w, index(w, r.moment)),
+        Operation::GiveName => names::give(w, Name::from(r.value), r.moment),
+        Operation::WithdrawName => names::withdraw(w, Name::from(r.value)),
     }
 }
 
-fn feed_name(w: &mut Numbers, operation: u32, name: u32, moment: u32) -> u32 {
-    if operation == 6 {
-        names::give(w, high_of(name), low_of(name), moment)
-    } else {
-        names::withdraw(w, high_of(name), low_of(name))
-    }
+// A page that a read gives: its date, and the byte that fills it.
+#[derive(Clone, Copy, PartialEq, Eq)]
+pub struct DatedPage {
+    pub date: u32,
+    pub byte: u32,
 }
 
-// One more than the byte of the page that a read gives; 0 where there is none.
-pub fn page(w: &Numbers, r: Request) -> u32
-    ensures { r.operation < 4 → result ≡ 0 }
+// The page that a read gives; no other request gives one.
+pub fn page(w: &Numbers, r: Request) -> Option<DatedPage>
+    ensures { r.operation < 4 → result ≡ None }
 {
-    if r.operation == 4 {
-        get(w, page_at(index(w, r.moment), r.address))
-    } else {
-        0
+    if r.operation != Operation::Read as u32 {
+        return None;
     }
+    let i = index(w, r.moment);
+    let byte = get(w, page_at(i, r.address)).checked_sub(1)?;
+    Some(DatedPage {
+        date: date(w, i, r.address),
+        byte,
+    })
 }
 
 // The date of the page at an address of a snapshot: the moment of its write, as requests name it.
@@ -255,38 +269,30 @@ pub fn date(w: &Numbers, i: u32, a: u32) -> u32
 }
 
 // The refusal that is due.
-pub fn refusal(w: &Numbers, r: Request) -> u32
-    ensures { result ≤ 17 }
+pub fn refusal(w: &Numbers, r: Request) -> Option<Refusal>
+    ensures { MatchOption result (Unit {0}) (λ refusal. number_of refusal ≤ 17) }
 {
-    let operation = r.operation;
-    match operation {
-        1 => write_refusal(w, r.address),
-        2 => if now(w) == LAST { 10 } else { 0 },
-        3 => revert_refusal(w, r.moment),
-        4 => read_refusal(w, r.address, r.moment),
-        5 => reclaim_refusal(w, r.moment),
-        6 => naming_refusal(w, r.value, r.moment),
-        _ => withdrawal_refusal(w, r.value),
-    }
+    let operation = Operation::try_from(r.operation).ok()?;
+    let allowed = match operation {
+        Operation::Write => write_allowed(w, r.address),
+        Operation::Mark => need(now(w) != LAST, Refusal::LastMoment),
+        Operation::Revert => revert_allowed(w, r.moment),
+        Operation::Read => read_allowed(w, r.address, r.moment),
+        Operation::Reclaim => reclaim_allowed(w, r.moment),
+        Operation::GiveName => give_name_allowed(w, Name::from(r.value), r.moment),
+        Operation::WithdrawName => need(names::is_given(w, Name::from(r.value)), Refusal::NotGiven),
+    };
+    allowed.err()
 }
 
-fn write_refusal(w: &Numbers, a: u32) -> u32
-    ensures { result ≤ 17 }
-{
-    if a >= get(w, SIZE) {
-        return 4;
+// A pair that is held is written over, and takes no row and no place.
+fn write_allowed(w: &Numbers, a: u32) -> Result<(), Refusal> {
+    need(a < get(w, SIZE), Refusal::Address)?;
+    if held(w, get(w, NOW), a).is_some() {
+        return Ok(());
     }
-    if get(w, held_at(get(w, NOW), a)) != 0 {
-        return 0;
-    }
-    if get(w, HELD) >= get(w, RECORD_ROWS) {
-        return 5;
-    }
-    if get(w, HELD) >= get(w, PLACE_ROWS) {
-        6
-    } else {
-        0
-    }
+    need(get(w, HELD) < get(w, RECORD_ROWS), Refusal::Records)?;
+    need(get(w, HELD) < get(w, PLACE_ROWS), Refusal::Places)
 }
 
 // The moment of a snapshot; past now those that are named.
@@ -301,75 +307,42 @@ pub fn moment_read(w: &Numbers, i: u32) -> u32 {
 
 // Whether a moment is not below the floor, or named.
 fn readable(w: &Numbers, moment: u32) -> bool {
-    if moment >= floor(w) {
-        true
-    } else {
-        names::is_named(w, moment)
-    }
+    moment >= floor(w) || names::is_named(w, moment)
 }
 
-fn revert_refusal(w: &Numbers, moment: u32) -> u32
-    ensures { result ≤ 17 }
-{
-    if !readable(w, moment) {
-        return 8;
-    }
-    if moment >= now(w) {
-        return 9;
-    }
-    if now(w) == LAST {
-        return 10;
-    }
-    if get(w, BRANCHES) >= get(w, BRANCH_ROWS) {
-        7
-    } else {
-        0
-    }
+// A read reaches a readable moment that is not above now.
+fn read_reaches(w: &Numbers, moment: u32) -> Result<(), Refusal> {
+    need(readable(w, moment), Refusal::Below)?;
+    need(moment <= now(w), Refusal::Above)
 }
 
-fn read_refusal(w: &Numbers, a: u32, moment: u32) -> u32
-    ensures { result ≤ 17 }
-{
-    if a >= get(w, SIZE) {
-        return 4;
-    }
-    if !readable(w, moment) {
-        return 8;
-    }
-    if moment > now(w) { 9 } else { 0 }
+// A revert, or a naming, reaches a readable moment that is sealed.
+fn revert_reaches(w: &Numbers, moment: u32) -> Result<(), Refusal> {
+    need(readable(w, moment), Refusal::Below)?;
+    need(moment < now(w), Refusal::Above)
+}
+
+// A revert seals a moment and takes a branch row.
+fn revert_allowed(w: &Numbers, moment: u32) -> Result<(), Refusal> {
+    revert_reaches(w, moment)?;
+    need(now(w) != LAST, Refusal::LastMoment)?;
+    need(get(w, BRANCHES) < get(w, BRANCH_ROWS), Refusal::Branches)
+}
+
+fn read_allowed(w: &Numbers, a: u32, moment: u32) -> Result<(), Refusal> {
+    need(a < get(w, SIZE), Refusal::Address)?;
+    read_reaches(w, moment)
 }
 
 // Names do not help here: what is reclaimed goes by the floor.
-fn reclaim_refusal(w: &Numbers, moment: u32) -> u32
-    ensures { result ≤ 17 }
-{
-    if moment < floor(w) {
-        return 8;
-    }
-    if moment > now(w) { 9 } else { 0 }
+fn reclaim_allowed(w: &Numbers, moment: u32) -> Result<(), Refusal> {
+    need(moment >= floor(w), Refusal::Below)?;
+    need(moment <= now(w), Refusal::Above)
 }
 
-fn naming_refusal(w: &Numbers, name: u32, moment: u32) -> u32
-    ensures { result ≤ 17 }
-{
-    if !readable(w, moment) {
-        return 8;
-    }
-    if moment >= now(w) {
-        return 9;
-    }
-    if names::is_given(w, high_of(name), low_of(name)) {
-        return 15;
-    }
-    if get(w, NAMES) >= MOST_NAMES { 16 } else { 0 }
-}
-
-fn withdrawal_refusal(w: &Numbers, name: u32) -> u32
-    ensures { result ≤ 17 }
-{
-    if names::is_given(w, high_of(name), low_of(name)) {
-        0
-    } else {
-        17
-    }
+// A name is given once, and takes a row.
+fn give_name_allowed(w: &Numbers, name: Name, moment: u32) -> Result<(), Refusal> {
+    revert_reaches(w, moment)?;
+    need(!names::is_given(w, name), Refusal::NameGiven)?;
+    need(get(w, NAMES) < MOST_NAMES, Refusal::Names)
 }

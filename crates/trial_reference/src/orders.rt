@@ -3,12 +3,13 @@
 // first, and leaves out the branches whose row is gone.
 ghost use Rattle.std.specs.Prelude.{◌≡◌, ◌+◌, ◌%◌, length, get_or};
 
-use crate::{index, now, readable};
+use crate::refusals::number;
+use crate::{index, read_reaches};
 use trial_words::layout::{
     BASE, BRANCHES, LIST_COUNT, LIST_DUE, LIST_GONE, LIST_ORDERS, NOW, Numbers, ORDERS_TAKEN, ROWS,
     WAYS,
 };
-use trial_words::rows;
+use trial_words::rows::row_at;
 use trial_words::words::{add, get, number_at, plus, put, put_two};
 
 fn way_at(i: u32) -> u32
@@ -20,7 +21,7 @@ fn way_at(i: u32) -> u32
 fn way(w: &Numbers, i: u32) -> u32
     ensures { result ≡ get_or w.now (768 + i % 256) 0 }
 {
-    number_at(w, WAYS + i % 256)
+    number_at(w, way_at(i))
 }
 
 // The branch of a snapshot, by the number of its first one.
@@ -74,24 +75,23 @@ fn count(w: &mut Numbers, order: u32) {
 
 // Whether the row of a branch is there; the first always is.
 fn has_row(w: &Numbers, branch: u32) -> bool {
-    if branch == 0 {
-        return true;
-    }
     let start = plus(get(w, BASE), branch);
-    for k in 0..get(w, BRANCHES) {
-        if get(w, rows::row_at(ROWS, k)) == start {
-            return true;
-        }
-    }
-    false
+    branch == 0 || (0..get(w, BRANCHES)).any(|k| get(w, row_at(ROWS, k)) == start)
 }
 
-// A branch of the way: its work order goes behind the others, or one row more is gone.
+// A work order goes behind the others of the list.
+pub fn list_order(w: &mut Numbers, order: u32)
+    ensures { length w.new ≡ length w.old }
+{
+    let n = get(w, LIST_COUNT);
+    put(w, LIST_ORDERS + n % 16, order);
+    put(w, LIST_COUNT, plus(n, 1));
+}
+
+// A branch of the way is listed, or one row more is gone.
 fn list_branch(w: &mut Numbers, branch: u32) {
     if has_row(w, branch) {
-        let n = get(w, LIST_COUNT);
-        put(w, LIST_ORDERS + n % 16, order_of(w, branch));
-        put(w, LIST_COUNT, plus(n, 1));
+        list_order(w, order_of(w, branch));
     } else {
         add(w, LIST_GONE, 1);
     }
@@ -109,22 +109,14 @@ fn list_way(w: &mut Numbers, branch: u32) {
     }
 }
 
-// The refusal of a list, where it has the space.
-fn refusal(w: &Numbers, moment: u32) -> u32 {
-    if !readable(w, moment) {
-        return 8;
-    }
-    if moment > now(w) { 9 } else { 0 }
-}
-
-// The list that is due at a moment. Answers its refusal.
+// The list that is due at a moment, where it has the space: it reaches the moments that a read does. Answers its refusal.
 pub fn expect(w: &mut Numbers, moment: u32) -> u32
     ensures { result ≡ get_or w.new 428 0 }
 {
-    let due = refusal(w, moment);
-    put_two(w, LIST_DUE, due, 0);
+    let allowed = read_reaches(w, moment);
+    put_two(w, LIST_DUE, number(allowed.err()), 0);
     put(w, LIST_GONE, 0);
-    if due == 0 {
+    if allowed.is_ok() {
         list_way(w, branch_of(w, index(w, moment)));
     }
     number_at(w, LIST_DUE)

@@ -1,7 +1,9 @@
 // Where each number of a trial stands in its table of numbers, and each byte in its table of bytes.
-ghost use Rattle.std.specs.Prelude.{◌≡◌, ◌+◌, ◌*◌, ◌%◌};
+ghost use Rattle.std.specs.Prelude.{◌≡◌, ◌+◌, ◌*◌, ◌%◌, ◌<◌};
 
 // The two tables: what a trial knows and lends as numbers, and as bytes.
+// Kept: flat, since the trials of faults and of broken stores change them number by number, by index, which no struct of named fields
+// allows; and apart, since the comparison writes numbers while it reads bytes.
 pub type Numbers = [u32; 5632];
 
 pub type Bytes = [u8; 12288];
@@ -283,6 +285,7 @@ pub const ANSWERS: u32 = 8192;
 // What a turn does: a fresh store; the next batch of the list; a read of every address at a moment; a batch on a changed store; live reads
 // and a copying step, after the batch of a list, or on a changed store that is refused; lists of work orders, after the batch of a list,
 // or on a changed store.
+// Kept: words of the flat table, which trial_turns puts and trial_faults compares.
 pub const FRESH: u32 = 0;
 
 pub const PLAY: u32 = 1;
@@ -303,6 +306,36 @@ pub const ORDERS_CHANGED: u32 = 8;
 
 // The last moment, and the largest number.
 pub const LAST: u32 = 4294967295;
+
+// How the lists of a family are made, by the number at MODE: a batch for each request of a short list; one batch for all; from the
+// generator; one batch, cut anywhere; an operator who sets back; one batch, with any space for its answers.
+#[derive(Clone, Copy, PartialEq, Eq)]
+pub enum Mode {
+    Each,
+    All,
+    Drawn,
+    Cut,
+    Back,
+    Space,
+}
+
+impl From<u32> for Mode {
+    ghost use Rattle.trial_words.specs.Layout.{mode_number};
+    ghost use Rattle.trial_words.specs.declared.layout.Mode.TheVariants.{Drawn};
+
+    ghost from_gives = { λ n mode. (n < 6 → mode_number mode ≡ n) × (5 < n → mode ≡ Drawn) };
+
+    fn from(number: u32) -> Mode {
+        match number {
+            0 => Mode::Each,
+            1 => Mode::All,
+            3 => Mode::Cut,
+            4 => Mode::Back,
+            5 => Mode::Space,
+            _ => Mode::Drawn,
+        }
+    }
+}
 
 // A batch that has not stopped.
 pub const RUNNING: u32 = 99;
@@ -350,6 +383,13 @@ pub fn disk_page(a: u32) -> u32
     ensures { result ≡ 6656 + a % 4 * 256 }
 {
     DISK + a % 4 * 256
+}
+
+// The k-th list that is asked for in a turn: its moment and the bytes lent.
+pub fn asked_at(k: u32) -> u32
+    ensures { result ≡ 640 + k % 48 * 2 }
+{
+    ASKS + k % 48 * 2
 }
 
 // What the k-th list of a turn gave, in the answer area: the bytes lent, 48 at most, and in the 73rd its refusal, in the two behind it the
