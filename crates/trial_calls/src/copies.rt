@@ -1,84 +1,96 @@
-// Numbers and bytes copied and compared, as many as both sides have.
-ghost use Rattle.std.specs.Prelude.{◌≤◌};
+// Values copied and compared, as many as both sides have.
+ghost use Rattle.std.specs.Prelude.{◌≡◌, ◌++◌, ◌%◌, ◌^◌, length, take, drop};
 
-use trial_words::words::plus;
-
-// A number as a length, at most another.
-pub(crate) fn at_most(n: u32, most: usize) -> usize
-    ensures { result ≤ most }
+// A length as a number.
+pub(crate) fn number(n: usize) -> u32
+    ensures { result ≡ n % 2 ^ 32 }
 {
-    let k = n as usize;
-    if k < most { k } else { most }
+    (n % 4294967296) as u32
 }
 
-fn least(a: usize, b: usize) -> usize
-    ensures { (result ≤ a) × (result ≤ b) }
+// The first values of a slice, as many as a number says.
+pub(crate) fn first<T>(s: &[T], n: u32) -> &[T]
+    ensures { result.now ≡ take n s.now }
 {
-    if a < b { a } else { b }
+    let n = s.len().min(n as usize);
+    &s[..n]
 }
 
-// As many numbers as both have.
-pub(crate) fn copy(from: &[u32], to: &mut [u32]) {
-    let n = least(from.len(), to.len());
-    let mut i: usize = 0;
-    while i < n {
-        to[i] = from[i];
-        i += 1;
-    }
+pub(crate) fn first_mut<T>(s: &mut [T], n: u32) -> &mut [T]
+    ensures { result.now ≡ take n s.old }
+{
+    let n = s.len().min(n as usize);
+    &mut s[..n]
 }
 
-pub(crate) fn copy_bytes(from: &[u8], to: &mut [u8]) {
-    let n = least(from.len(), to.len());
+// The values of a slice from an index on.
+pub(crate) fn behind<T>(s: &[T], at: u32) -> &[T]
+    ensures { result.now ≡ drop at s.now }
+{
+    let at = s.len().min(at as usize);
+    &s[at..]
+}
+
+pub(crate) fn copy<T: Copy>(from: &[T], to: &mut [T])
+    ensures { to.new ≡ take (length to.old) from.now ++ drop (length from.now) to.old }
+{
+    let n = from.len().min(to.len());
     to[..n].copy_from_slice(&from[..n]);
 }
 
-fn one_where(yes: bool) -> u32 {
-    if yes { 1 } else { 0 }
-}
-
-// How many numbers differ, of as many as both have.
-pub(crate) fn differing(s: &[u32], t: &[u32]) -> u32 {
-    let n = least(s.len(), t.len());
-    let mut count: u32 = 0;
-    let mut i: usize = 0;
-    while i < n {
-        count = plus(count, one_where(s[i] != t[i]));
-        i += 1;
-    }
-    count
-}
-
-pub(crate) fn differing_bytes(s: &[u8], t: &[u8]) -> u32 {
-    let n = least(s.len(), t.len());
+// How many values differ.
+pub(crate) fn differing<T: Copy + PartialEq>(s: &[T], t: &[T]) -> u32 {
+    let n = s.len().min(t.len());
     if s[..n] == t[..n] {
         return 0;
     }
-    let mut count: u32 = 0;
-    let mut i: usize = 0;
-    while i < n {
-        count = plus(count, one_where(s[i] != t[i]));
-        i += 1;
-    }
-    count
+    number(s.iter().zip(t).filter(|(a, b)| a != b).count())
+}
+
+// N values from an index on; past the end there are blanks.
+pub(crate) fn area<T: Copy, const N: usize>(from: &[T], at: u32, blank: T) -> [T; N]
+    ensures { length result ≡ N }
+{
+    let mut values = [blank; N];
+    copy(behind(from, at), &mut values);
+    values
+}
+
+// Values go to their index.
+pub(crate) fn put_back<T: Copy>(to: &mut [T], at: u32, values: &[T])
+    ensures { length to.new ≡ length to.old }
+{
+    let at = to.len().min(at as usize);
+    copy(values, &mut to[at..]);
+}
+
+// Values go to their index. Answers how many of them differ from what stands there.
+pub(crate) fn save<T: Copy + PartialEq>(to: &mut [T], at: u32, values: &[T]) -> u32
+    ensures { length to.new ≡ length to.old }
+{
+    let touched = differing(behind(to, at), values);
+    put_back(to, at, values);
+    touched
 }
 
 // What a live read gave: its page, its refusal, and 1 where there is a page, 2 where the part is neither a page nor empty.
 pub(crate) fn note_read(page: &[u8], refusal: u32, area: &mut [u8]) {
-    let n = page.len();
-    copy_bytes(page, area);
-    if area.len() > 257 {
-        area[256] = (refusal % 256) as u8;
-        area[257] = if n == 256 {
-            1
-        } else if n == 0 {
-            0
-        } else {
-            2
-        };
-    }
+    copy(page, area);
+    put_in(area, 256, refusal);
+    put_in(
+        area,
+        257,
+        match page.len() {
+            256 => 1,
+            0 => 0,
+            _ => 2,
+        },
+    );
 }
 
-fn put_in(area: &mut [u8], i: usize, n: u32) {
+fn put_in(area: &mut [u8], i: usize, n: u32)
+    ensures { length area.new ≡ length area.old }
+{
     if i < area.len() {
         area[i] = (n % 256) as u8;
     }
@@ -86,7 +98,7 @@ fn put_in(area: &mut [u8], i: usize, n: u32) {
 
 // What a list of work orders gave besides its bytes: its refusal, and its count in two bytes, 65,535 where it is more.
 pub(crate) fn note_list(refusal: u32, count: u32, area: &mut [u8]) {
-    let n: u32 = if count < 65535 { count } else { 65535 };
+    let n = count.min(65535);
     put_in(area, 72, refusal);
     put_in(area, 73, n / 256);
     put_in(area, 74, n);

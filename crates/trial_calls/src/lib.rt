@@ -3,3 +3,4 @@
 
 pub mod calls;
 mod copies;
+pub mod lent;

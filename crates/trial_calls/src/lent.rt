@@ -1,0 +1,142 @@
+// What is lent to the store.
+ghost use Rattle.std.specs.Prelude.{◌≡◌, length};
+
+use crate::copies::{area, behind, differing, first_mut, number, put_back, save};
+use trial_words::layout::{
+    BRANCH_LENGTH, BRANCH_TABLE, Bytes, DISK, DISK_LENGTH, MARK_LENGTH, MARK_TABLE, NAME_LENGTH,
+    NAME_TABLE, Numbers, PLACE_LENGTH, PLACE_TABLE, RECORD_LENGTH, RECORD_TABLE, SLAB, SLAB_LENGTH,
+    TOUCHED,
+};
+use trial_words::words::{get, plus, put, put_four};
+
+// The four tables and the slab, with room for so many numbers and bytes.
+#[derive(Drop)]
+pub struct Tables<const B: usize, const R: usize, const P: usize, const N: usize, const S: usize> {
+    pub branches: [u32; B],
+    pub records: [u32; R],
+    pub places: [u32; P],
+    pub names: [u32; N],
+    pub slab: [u8; S],
+}
+
+// The parts of them that are lent, of the lengths on trial.
+#[derive(Drop)]
+pub struct Lent<'a> {
+    pub branches: &'a mut [u32],
+    pub records: &'a mut [u32],
+    pub places: &'a mut [u32],
+    pub names: &'a mut [u32],
+    pub slab: &'a mut [u8],
+}
+
+impl<const B: usize, const R: usize, const P: usize, const N: usize, const S: usize>
+    Tables<B, R, P, N, S>
+{
+    pub fn blank() -> Self {
+        Tables {
+            branches: [0; B],
+            records: [0; R],
+            places: [0; P],
+            names: [0; N],
+            slab: [0; S],
+        }
+    }
+
+    pub fn lent<'a>(&'a mut self, w: &Numbers) -> Lent<'a> {
+        Lent {
+            branches: first_mut(&mut self.branches, get(w, BRANCH_LENGTH)),
+            records: first_mut(&mut self.records, get(w, RECORD_LENGTH)),
+            places: first_mut(&mut self.places, get(w, PLACE_LENGTH)),
+            names: first_mut(&mut self.names, get(w, NAME_LENGTH)),
+            slab: first_mut(&mut self.slab, get(w, SLAB_LENGTH)),
+        }
+    }
+}
+
+// Those of a list, with room for rows more of branches and for a row more of names.
+pub(crate) type Copies = Tables<84, 64, 64, 99, 4352>;
+
+impl Tables<84, 64, 64, 99, 4352> {
+    pub(crate) fn of(w: &Numbers, b: &Bytes) -> Self {
+        Tables {
+            branches: area(w, BRANCH_TABLE, 0),
+            records: area(w, RECORD_TABLE, 0),
+            places: area(w, PLACE_TABLE, 0),
+            names: area(w, NAME_TABLE, 0),
+            slab: area(b, SLAB, 0),
+        }
+    }
+
+    // They go back to where they stand. Notes how many numbers of each table differ from what stands there.
+    pub(crate) fn save(&self, w: &mut Numbers) {
+        let branches = save(w, BRANCH_TABLE, &self.branches);
+        let records = save(w, RECORD_TABLE, &self.records);
+        let places = save(w, PLACE_TABLE, &self.places);
+        let names = save(w, NAME_TABLE, &self.names);
+        put_four(w, TOUCHED, branches, records, places, names);
+    }
+
+    pub(crate) fn save_slab(&self, w: &mut Numbers, b: &mut Bytes) {
+        let touched = save(b, SLAB, &self.slab);
+        put(w, TOUCHED + 4, touched);
+    }
+}
+
+// A live disk and its marks.
+#[derive(Drop)]
+pub(crate) struct Live<const D: usize> {
+    disk: [u8; D],
+    marks: [u8; 8],
+}
+
+// The parts of them that are lent, of the lengths on trial.
+#[derive(Drop)]
+pub(crate) struct LentLive<'a> {
+    pub(crate) disk: &'a mut [u8],
+    pub(crate) marks: &'a mut [u8],
+}
+
+impl<const D: usize> Live<D> {
+    // Every page is stale.
+    pub(crate) fn blank() -> Self {
+        Live {
+            disk: [0; D],
+            marks: [0; 8],
+        }
+    }
+
+    pub(crate) fn lent<'a>(&'a mut self, w: &Numbers) -> LentLive<'a> {
+        let marks = &mut self.marks;
+        LentLive {
+            disk: first_mut(&mut self.disk, get(w, DISK_LENGTH)),
+            marks: first_mut(marks, get(w, MARK_LENGTH)),
+        }
+    }
+}
+
+impl Live<1280> {
+    pub(crate) fn of(w: &Numbers, b: &Bytes) -> Self {
+        Live {
+            disk: area(b, DISK, 0),
+            marks: marks_of(w),
+        }
+    }
+
+    // They go back to where they stand. Notes how many bytes and marks differ from what stands there.
+    pub(crate) fn save(&self, w: &mut Numbers, b: &mut Bytes) {
+        let pages = save(b, DISK, &self.disk);
+        let touched = differing(&marks_of(w), &self.marks);
+        for (k, mark) in self.marks.iter().enumerate() {
+            put(w, plus(MARK_TABLE, number(k)), u32::from(*mark));
+        }
+        put(w, TOUCHED + 5, plus(pages, touched));
+    }
+}
+
+fn marks_of(w: &Numbers) -> [u8; 8] {
+    let mut marks = [0; 8];
+    for (k, mark) in marks.iter_mut().enumerate() {
+        *mark = (get(w, plus(MARK_TABLE, number(k))) % 256) as u8;
+    }
+    marks
+}
