@@ -2,7 +2,7 @@
 // row. With every fifth change a mark is wrong besides, which is to be refused only where nothing else is.
 ghost use Rattle.std.specs.Prelude.{◌≡◌, get_or};
 
-use crate::faults::swap;
+use crate::faults::swap_rows;
 use trial_words::layout::{
     BRANCH_LENGTH, BRANCH_ROWS, BRANCH_TABLE, CHANGE, CHANGES, DISK_LENGTH, HEAD, HEAD_NOW, LAST,
     MARK_TABLE, NAME_TABLE, Numbers, PLACE_ROWS, PLACE_TABLE, RECORD_ROWS, RECORD_TABLE, REPLACED,
@@ -101,10 +101,7 @@ fn value(now: u32, old: u32, row: u32, v: u32) -> u32 {
 
 // Whether the number at a place is a work order.
 fn is_order(at: u32) -> bool {
-    if at < BRANCH_TABLE {
-        return false;
-    }
-    if at < PLACE_TABLE { at % 4 == 3 } else { false }
+    (BRANCH_TABLE..PLACE_TABLE).contains(&at) && at % 4 == 3
 }
 
 // A work order takes 65,535 in place of now, and 65,536 in place of now+1. The length of the branch rows takes a row of four numbers more,
@@ -149,12 +146,7 @@ fn put_back(w: &mut Numbers, change: u32) {
 
 // Two records that stand together change rows; every second time each leaves its place behind, so that only their order is wrong.
 fn swap_records(w: &mut Numbers, change: u32) {
-    let row = record_row(change / 2);
-    swap(w, row, plus(row, 3));
-    swap(w, plus(row, 1), plus(row, 4));
-    if change % 2 == 0 {
-        swap(w, plus(row, 2), plus(row, 5));
-    }
+    swap_rows(w, record_row(change / 2), 3 - change % 2);
 }
 
 // With every fifth change the last mark is more, or as it was again.

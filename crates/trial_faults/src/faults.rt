@@ -1,260 +1,190 @@
 // Faults put into what the store gave, so that the comparison is seen to find them: one to a list, and taken out after it.
 // A number or a byte is not what the store gave, two records or two names stand in each other's row, a page stands in another free place,
 // or the branch rows, the marks of the live disk or the lists of work orders are those of another rule.
+// Kept: the faults are numbered from 1, as the table of numbers holds them (FAULT) and the program `trials` names them; 114 names in place of
+// the numbers would be no plainer, since most arms take a run of them.
 ghost use Rattle.std.specs.Prelude.{◌≡◌, get_or};
 
+use crate::spots::{NOWHERE, Spot};
+use crate::turns::Turn;
 use crate::{live, orders, rows};
 use trial_words::layout::{
-    ANSWERS, AREA, BRANCH_TABLE, Bytes, CHANGED, DUE, FAULT, FAULTS, FAULTY, FRESH, HEAD,
-    HEAD_BRANCHES, HEAD_NAMES, HEAD_NOW, HEAD_RECORDS, LIVE, LIVE_REFUSED, MOST_NAMES, NAME_TABLE,
-    Numbers, ORDERS, PAGE_ANSWER, PLACE_ROWS, PLACE_TABLE, PLAY, READ_BACK, RECORD_TABLE,
-    ROWS_READ, SLAB, SPOT, STOP, TURN, name_row, record_row,
+    ANSWERS, AREA, BRANCH_TABLE, Bytes, DUE, FAULT, FAULTS, FAULTY, HEAD, HEAD_BRANCHES,
+    HEAD_NAMES, HEAD_NOW, HEAD_RECORDS, MARK_TABLE, MOST_NAMES, NAME_TABLE, Numbers, PAGE_ANSWER,
+    PLACE_ROWS, PLACE_TABLE, RECORD_TABLE, ROWS_READ, SLAB, SPOT, STOP, live_at, name_row,
+    record_row,
 };
 use trial_words::request::listed;
 use trial_words::words::{add, byte, get, minus, number_at, plus, put, put_byte};
 
-// The faults are numbered from 1, as the program `trials` names them.
-// Where a fault can stand: an index of the table of numbers; BYTES and an index of the table of bytes; two records in each other's row;
-// a record in another free place; two names in each other's row; branch rows, the live disk and the lists of work orders, as the modules for
-// them number them.
-pub(crate) const BYTES: u32 = 65536;
+// The fault that the family puts in.
+fn fault_of(w: &Numbers) -> Option<u32> {
+    match get(w, FAULT) {
+        0 => None,
+        fault => Some(fault),
+    }
+}
 
-const SWAPPED: u32 = 131072;
-
-// A record's page moved to another free place: and 16 times its place, and the other one.
-const MOVED: u32 = 131073;
-
-const SWAPPED_NAMES: u32 = 131584;
-
-pub(crate) const NOWHERE: u32 = 4294967295;
-
-// One, but two at the end of the first branch, which is the largest number; of a mark, what its fault says.
-fn step(w: &Numbers) -> u32 {
-    let fault = get(w, FAULT);
-    match fault {
+// How much is added at the place of a fault, and again taken from it: one, but two at the end of the first branch, which is the largest
+// number; of a mark, what its fault says.
+fn amount(w: &Numbers, put_in: bool) -> u32 {
+    let step = match get(w, FAULT) {
         32 => 2,
-        60..=81 => live::step(fault),
-        _ => 1,
+        fault => live::step(fault),
+    };
+    if put_in { step } else { minus(0, step) }
+}
+
+fn spot(w: &Numbers, b: &Bytes, fault: u32) -> Option<Spot> {
+    match Turn::next(w) {
+        Turn::Fresh => in_fresh(fault),
+        Turn::Play => in_batch(w, b, fault),
+        Turn::ReadBack | Turn::Ended => in_page(b, fault),
+        Turn::Changed => in_refused(fault, get(w, DUE)),
+        Turn::Live => live::spot(w, b, fault),
+        Turn::LiveRefused => live::in_refused(fault),
+        Turn::Orders => orders::spot(w, b, fault, true),
+        Turn::OrdersChanged => orders::spot(w, b, fault, false),
     }
 }
 
-fn spot(w: &Numbers, b: &Bytes, fault: u32) -> u32 {
-    let turn = get(w, TURN);
-    if turn == PLAY {
-        return in_batch(w, b, fault);
-    }
-    if turn == CHANGED {
-        return in_refused(fault, get(w, DUE));
-    }
-    if turn == FRESH {
-        return in_fresh(fault);
-    }
-    if turn >= ORDERS {
-        return orders::spot(w, b, fault, turn == ORDERS);
-    }
-    if turn >= LIVE {
-        return live::spot(w, b, fault, turn == LIVE);
-    }
-    in_page(b, fault)
+// A byte of the answer area.
+fn in_answers(i: u32) -> Option<Spot> {
+    Some(Spot::Byte(plus(ANSWERS, i)))
 }
 
-fn in_batch(w: &Numbers, b: &Bytes, fault: u32) -> u32 {
+fn in_batch(w: &Numbers, b: &Bytes, fault: u32) -> Option<Spot> {
     match fault {
-        1..=5 => plus(BYTES, plus(ANSWERS, minus(fault, 1))),
-        7..=10 => plus(STOP, minus(fault, 7)),
-        11..=15 => plus(HEAD, minus(fault, 11)),
+        1..=5 => in_answers(fault - 1),
+        7..=10 => Some(Spot::Number(STOP + (fault - 7))),
+        11..=15 => Some(Spot::Number(HEAD + (fault - 11))),
         16..=20 => in_record(w, fault, get(w, HEAD_RECORDS)),
-        21 => plus(BYTES, plus(ANSWERS, get(w, plus(STOP, 3)))),
-        22 => plus(BYTES, plus(ANSWERS, minus(get(w, AREA), 1))),
-        40 => in_place(w, get(w, HEAD_RECORDS), largest_free(w)),
-        41..=46 => in_names(w, fault, get(w, HEAD_NAMES)),
-        47 => in_naming(b, listed(w, 0).operation),
-        50..=56 => in_reclaim(w, b, fault, listed(w, 0).operation),
-        57 => ROWS_READ,
+        21 => in_answers(get(w, plus(STOP, 3))),
+        22 => in_answers(minus(get(w, AREA), 1)),
+        40 => in_place(w, get(w, HEAD_RECORDS)),
+        41..=46 => in_names(fault, get(w, HEAD_NAMES)),
+        // The moment that a naming answers with.
+        47 if accepted(w, b, 6) => in_answers(4),
+        50..=56 | 95 if accepted(w, b, 5) => rows::in_reclaim(w, fault),
+        57 => Some(Spot::Number(ROWS_READ)),
         60..=67 => live::in_batch(w, b, fault, listed(w, 0)),
-        92 => plus(BRANCH_TABLE, 3),
-        93 | 94 => in_revert(w, b, fault, listed(w, 0).operation),
-        95 => in_reclaim(w, b, fault, listed(w, 0).operation),
-        _ => NOWHERE,
+        92 => Some(Spot::Number(BRANCH_TABLE + 3)),
+        93 | 94 if accepted(w, b, 3) => rows::in_revert(w, fault),
+        _ => None,
     }
+}
+
+// Whether the first request of the batch is of an operation, and accepted.
+fn accepted(w: &Numbers, b: &Bytes, operation: u32) -> bool {
+    listed(w, 0).operation == operation && byte(b, ANSWERS) == 0
 }
 
 // The number of names; the last name's three numbers; the row behind it; the order of the first two.
-fn in_names(w: &Numbers, fault: u32, names: u32) -> u32 {
-    if fault == 41 {
-        return HEAD_NAMES;
-    }
-    if fault == 45 {
-        return if names < MOST_NAMES {
-            name_row(names)
-        } else {
-            NOWHERE
-        };
-    }
-    if fault == 46 {
-        return if names < 2 { NOWHERE } else { SWAPPED_NAMES };
-    }
-    if names == 0 {
-        NOWHERE
-    } else {
-        plus(name_row(minus(names, 1)), minus(fault, 42))
+fn in_names(fault: u32, names: u32) -> Option<Spot> {
+    match fault {
+        41 => Some(Spot::Number(HEAD_NAMES)),
+        42..=44 if names > 0 => Some(Spot::Number(plus(name_row(names - 1), fault - 42))),
+        45 if names < MOST_NAMES => Some(Spot::Number(name_row(names))),
+        46 if names >= 2 => Some(Spot::Names),
+        _ => None,
     }
 }
 
-// The moment that an accepted naming answers with.
-fn in_naming(b: &Bytes, operation: u32) -> u32 {
-    if operation != 6 {
-        return NOWHERE;
-    }
-    if byte(b, ANSWERS) == 0 {
-        plus(BYTES, plus(ANSWERS, 4))
-    } else {
-        NOWHERE
-    }
-}
-
-// The branch rows after an accepted reclaim.
-fn in_reclaim(w: &Numbers, b: &Bytes, fault: u32, operation: u32) -> u32 {
-    if operation != 5 {
-        return NOWHERE;
-    }
-    if byte(b, ANSWERS) == 0 {
-        rows::spot(w, fault)
-    } else {
-        NOWHERE
-    }
-}
-
-// The branch rows after an accepted revert.
-fn in_revert(w: &Numbers, b: &Bytes, fault: u32, operation: u32) -> u32 {
-    if operation != 3 {
-        return NOWHERE;
-    }
-    if byte(b, ANSWERS) == 0 {
-        rows::in_revert(w, fault, get(w, HEAD_BRANCHES))
-    } else {
-        NOWHERE
-    }
-}
-
-fn in_record(w: &Numbers, fault: u32, records: u32) -> u32 {
-    if records == 0 {
-        return NOWHERE;
-    }
-    let at = record_row(minus(records, 1));
+fn in_record(w: &Numbers, fault: u32, records: u32) -> Option<Spot> {
+    let at = record_row(records.checked_sub(1)?);
     let place = get(w, plus(at, 2)) % 16;
     match fault {
-        16 => at,
-        17 => plus(at, 1),
-        18 => if records == 1 { NOWHERE } else { SWAPPED },
-        19 => plus(BYTES, plus(SLAB, place * 256 + 255)),
-        _ => plus(PLACE_TABLE, place),
+        16 => Some(Spot::Number(at)),
+        17 => Some(Spot::Number(plus(at, 1))),
+        18 if records == 1 => None,
+        18 => Some(Spot::Records),
+        19 => Some(Spot::Byte(SLAB + place * 256 + 255)),
+        _ => Some(Spot::Number(PLACE_TABLE + place)),
     }
-}
-
-// The largest free place; 16 where there is none.
-fn largest_free(w: &Numbers) -> u32 {
-    let mut last: u32 = 16;
-    for p in 0..get(w, PLACE_ROWS) {
-        if get(w, plus(PLACE_TABLE, p)) == 0 {
-            last = p;
-        }
-    }
-    last
 }
 
 // The last record, in the largest free place.
-fn in_place(w: &Numbers, records: u32, free: u32) -> u32 {
-    if records == 0 {
-        return NOWHERE;
-    }
-    if free > 15 {
-        return NOWHERE;
-    }
-    let place = get(w, plus(record_row(minus(records, 1)), 2)) % 16;
-    MOVED + place * 16 + free
+fn in_place(w: &Numbers, records: u32) -> Option<Spot> {
+    let row = record_row(records.checked_sub(1)?);
+    let to = (0..get(w, PLACE_ROWS))
+        .rev()
+        .find(|p| get(w, plus(PLACE_TABLE, *p)) == 0)?;
+    Some(Spot::Page {
+        from: get(w, plus(row, 2)) % 16,
+        to,
+    })
 }
 
-fn in_page(b: &Bytes, fault: u32) -> u32 {
+fn in_page(b: &Bytes, fault: u32) -> Option<Spot> {
     if byte(b, ANSWERS) != 2 {
-        return NOWHERE;
+        return None;
     }
     match fault {
-        6 => plus(BYTES, plus(ANSWERS, PAGE_ANSWER - 1)),
-        36..=39 => plus(BYTES, plus(ANSWERS, minus(fault, 31))),
-        _ => NOWHERE,
-    }
-}
-
-fn in_refused(fault: u32, due: u32) -> u32 {
-    match fault {
-        23 => STOP,
-        24 => HEAD_NOW,
-        29 => plus(BYTES, ANSWERS),
-        58 => if due == 2 { ROWS_READ } else { NOWHERE },
-        59 => if due == 3 { ROWS_READ } else { NOWHERE },
-        _ => NOWHERE,
+        6 => in_answers(PAGE_ANSWER - 1),
+        36..=39 => in_answers(fault - 31),
+        _ => None,
     }
 }
 
-fn in_fresh(fault: u32) -> u32 {
+fn in_refused(fault: u32, due: u32) -> Option<Spot> {
     match fault {
-        30 => STOP,
-        31 => HEAD_BRANCHES,
-        32 => plus(BRANCH_TABLE, 1),
-        33 => RECORD_TABLE,
-        34 => PLACE_TABLE,
-        35 => plus(BRANCH_TABLE, 4),
-        48 => NAME_TABLE,
-        96 => plus(BRANCH_TABLE, 3),
-        _ => NOWHERE,
+        23 => Some(Spot::Number(STOP)),
+        24 => Some(Spot::Number(HEAD_NOW)),
+        29 => in_answers(0),
+        58 if due == 2 => Some(Spot::Number(ROWS_READ)),
+        59 if due == 3 => Some(Spot::Number(ROWS_READ)),
+        _ => None,
+    }
+}
+
+fn in_fresh(fault: u32) -> Option<Spot> {
+    match fault {
+        30 => Some(Spot::Number(STOP)),
+        31 => Some(Spot::Number(HEAD_BRANCHES)),
+        32 => Some(Spot::Number(BRANCH_TABLE + 1)),
+        33 => Some(Spot::Number(RECORD_TABLE)),
+        34 => Some(Spot::Number(PLACE_TABLE)),
+        35 => Some(Spot::Number(BRANCH_TABLE + 4)),
+        48 => Some(Spot::Number(NAME_TABLE)),
+        96 => Some(Spot::Number(BRANCH_TABLE + 3)),
+        _ => None,
     }
 }
 
 // The tables and the live disk as they were before a batch on a changed store, so that the batch seems to have changed them; the disk as
 // it was before a step that is refused, or before a batch that only reads.
-fn in_kept(turn: u32, fault: u32) -> u32 {
-    if turn == CHANGED {
-        return in_kept_store(fault);
-    }
-    if turn == LIVE_REFUSED {
-        return live::in_kept(fault, 86);
-    }
-    if turn == READ_BACK {
-        live::in_kept(fault, 90)
-    } else {
-        NOWHERE
+fn in_kept(turn: Turn, fault: u32) -> Option<Spot> {
+    match turn {
+        Turn::Changed => in_kept_store(fault),
+        Turn::LiveRefused => live::in_kept(fault, 86),
+        Turn::ReadBack => live::in_kept(fault, 90),
+        _ => None,
     }
 }
 
-fn in_kept_store(fault: u32) -> u32 {
+fn in_kept_store(fault: u32) -> Option<Spot> {
     match fault {
-        25 => BRANCH_TABLE,
-        26 => RECORD_TABLE,
-        27 => PLACE_TABLE,
-        28 => plus(BYTES, SLAB),
-        49 => NAME_TABLE,
+        25 => Some(Spot::Number(BRANCH_TABLE)),
+        26 => Some(Spot::Number(RECORD_TABLE)),
+        27 => Some(Spot::Number(PLACE_TABLE)),
+        28 => Some(Spot::Byte(SLAB)),
+        49 => Some(Spot::Number(NAME_TABLE)),
         _ => live::in_kept(fault, 88),
     }
 }
 
-pub(crate) fn swap(w: &mut Numbers, i: u32, j: u32) {
+fn swap(w: &mut Numbers, i: u32, j: u32) {
     let a = get(w, i);
     let b = get(w, j);
     put(w, i, b);
     put(w, j, a);
 }
 
-fn swap_records(w: &mut Numbers) {
-    swap(w, RECORD_TABLE, RECORD_TABLE + 3);
-    swap(w, RECORD_TABLE + 1, RECORD_TABLE + 4);
-    swap(w, RECORD_TABLE + 2, RECORD_TABLE + 5);
-}
-
-fn swap_names(w: &mut Numbers) {
-    swap(w, NAME_TABLE, NAME_TABLE + 3);
-    swap(w, NAME_TABLE + 1, NAME_TABLE + 4);
-    swap(w, NAME_TABLE + 2, NAME_TABLE + 5);
+// The first n numbers of a row of three, and those of the row behind it, in each other's place.
+pub(crate) fn swap_rows(w: &mut Numbers, row: u32, n: u32) {
+    for i in 0..n {
+        swap(w, plus(row, i), plus(row, plus(i, 3)));
+    }
 }
 
 pub(crate) fn swap_byte(b: &mut Bytes, i: u32, j: u32) {
@@ -265,7 +195,7 @@ pub(crate) fn swap_byte(b: &mut Bytes, i: u32, j: u32) {
 }
 
 // The 256 bytes from one index on, and those from another on, in each other's place.
-pub(crate) fn swap_pages(b: &mut Bytes, i: u32, j: u32) {
+fn swap_pages(b: &mut Bytes, i: u32, j: u32) {
     for k in 0..256u32 {
         swap_byte(b, plus(i, k), plus(j, k));
     }
@@ -279,58 +209,37 @@ fn move_page(w: &mut Numbers, b: &mut Bytes, from: u32, to: u32) {
     swap_pages(b, SLAB + from % 16 * 256, SLAB + to % 16 * 256);
 }
 
-fn shift(w: &mut Numbers, b: &mut Bytes, at: u32, by: u32) {
-    if at < BYTES {
-        add(w, at, by);
-        return;
-    }
-    if at < SWAPPED {
-        let i = minus(at, BYTES);
-        let v = byte(b, i);
-        put_byte(b, i, plus(v, by));
-        return;
-    }
-    if at == SWAPPED {
-        swap_records(w);
-        return;
-    }
-    if at == SWAPPED_NAMES {
-        swap_names(w);
-        return;
-    }
-    if rows::is_spot(at) {
-        rows::shift(w, at, by == 1);
-        return;
-    }
-    if live::is_spot(at) {
-        live::swap(w, b, at);
-        return;
-    }
-    if orders::is_spot(at) {
-        orders::shift(w, b, at, by == 1);
-        return;
-    }
-    if at < MOVED + 256 {
-        let there = minus(at, MOVED) / 16;
-        let other = minus(at, MOVED) % 16;
-        if by == 1 {
-            move_page(w, b, there, other);
-        } else {
-            move_page(w, b, other, there);
-        }
+pub(crate) fn add_byte(b: &mut Bytes, i: u32, by: u32) {
+    let v = byte(b, i);
+    put_byte(b, i, plus(v, by));
+}
+
+// The fault is put in at its spot, or taken out.
+fn shift(w: &mut Numbers, b: &mut Bytes, spot: Spot, put_in: bool) {
+    match spot {
+        Spot::Number(i) => add(w, i, amount(w, put_in)),
+        Spot::Byte(i) => add_byte(b, i, amount(w, put_in)),
+        Spot::Records => swap_rows(w, RECORD_TABLE, 3),
+        Spot::Names => swap_rows(w, NAME_TABLE, 3),
+        Spot::Page { from, to } if put_in => move_page(w, b, from, to),
+        Spot::Page { from, to } => move_page(w, b, to, from),
+        Spot::BranchRows(rows) => rows::shift(w, rows, put_in),
+        Spot::Marks(i, j) => swap(w, plus(MARK_TABLE, i), plus(MARK_TABLE, j)),
+        Spot::Reads => swap_pages(b, live_at(0), live_at(1)),
+        Spot::List(k) => orders::shift(w, b, k, put_in),
     }
 }
 
-// The family's fault at a place, unless the list has had it.
-fn put_at(w: &mut Numbers, b: &mut Bytes, at: u32) {
+// The family's fault at its spot, unless the list has had it.
+fn put_at(w: &mut Numbers, b: &mut Bytes, spot: Option<Spot>) {
     put(w, SPOT, NOWHERE);
-    if get(w, FAULTY) == 0 {
-        if at != NOWHERE {
-            put(w, SPOT, at);
-            put(w, FAULTY, 1);
-            add(w, FAULTS, 1);
-            shift(w, b, at, step(w));
-        }
+    if let Some(spot) = spot
+        && get(w, FAULTY) == 0
+    {
+        put(w, SPOT, u32::from(spot));
+        put(w, FAULTY, 1);
+        add(w, FAULTS, 1);
+        shift(w, b, spot, true);
     }
 }
 
@@ -338,8 +247,7 @@ fn put_at(w: &mut Numbers, b: &mut Bytes, at: u32) {
 pub fn put_in(w: &mut Numbers, b: &mut Bytes) -> u32
     ensures { result ≡ get_or w.new 60 0 }
 {
-    let fault = get(w, FAULT);
-    let at = spot(w, b, fault);
+    let at = fault_of(w).and_then(|fault| spot(w, b, fault));
     put_at(w, b, at);
     number_at(w, SPOT)
 }
@@ -348,7 +256,7 @@ pub fn put_in(w: &mut Numbers, b: &mut Bytes) -> u32
 pub fn put_in_kept(w: &mut Numbers, b: &mut Bytes) -> u32
     ensures { result ≡ get_or w.new 60 0 }
 {
-    let at = in_kept(get(w, TURN), get(w, FAULT));
+    let at = fault_of(w).and_then(|fault| in_kept(Turn::next(w), fault));
     put_at(w, b, at);
     number_at(w, SPOT)
 }
@@ -358,6 +266,8 @@ pub fn take_out(w: &mut Numbers, b: &mut Bytes) -> u32
     ensures { result ≡ get_or w.old 60 0 }
 {
     let at = number_at(w, SPOT);
-    shift(w, b, at, minus(0, step(w)));
+    if let Some(spot) = Spot::numbered(at) {
+        shift(w, b, spot, false);
+    }
     at
 }

@@ -6,3 +6,5 @@ pub mod faults;
 pub mod live;
 mod orders;
 pub mod rows;
+mod spots;
+pub mod turns;

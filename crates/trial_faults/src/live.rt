@@ -1,38 +1,12 @@
 // Faults in the live disk and its marks as a batch or a copying step left them, and in what live reads and steps gave.
 ghost use Rattle.std.specs.Prelude.{◌≡◌, get_or};
 
-use crate::faults;
-use crate::faults::{BYTES, NOWHERE};
+use crate::spots::Spot;
 use trial_words::layout::{
     ANSWERS, Bytes, COPIED, DISK, MARK_TABLE, MARKS_BEFORE, Numbers, SIZE, disk_page, live_at,
 };
 use trial_words::request::Request;
-use trial_words::words::{byte, get, minus, number_at, plus, put_four};
-
-// Where a fault can stand: two marks in each other's place, and 16 times one address and the other; the first two pages of the live reads.
-const SWAPPED_MARKS: u32 = 133120;
-
-const SWAPPED_READS: u32 = 133376;
-
-// No address.
-const NONE: u32 = 8;
-
-pub(crate) fn is_spot(at: u32) -> bool {
-    if at < SWAPPED_MARKS {
-        false
-    } else {
-        at <= SWAPPED_READS
-    }
-}
-
-pub(crate) fn swap(w: &mut Numbers, b: &mut Bytes, at: u32) {
-    if at == SWAPPED_READS {
-        faults::swap_pages(b, live_at(0), live_at(1));
-    } else {
-        let i = minus(at, SWAPPED_MARKS);
-        faults::swap(w, MARK_TABLE + i / 16 % 8, MARK_TABLE + i % 8);
-    }
-}
+use trial_words::words::{byte, get, minus, number_at, plus, put};
 
 // How much is added at the place of a fault.
 pub(crate) fn step(fault: u32) -> u32 {
@@ -48,149 +22,130 @@ pub(crate) fn step(fault: u32) -> u32 {
 pub fn note_before(w: &mut Numbers) -> u32
     ensures { result ≡ get_or w.new 488 0 }
 {
-    let first = get(w, MARK_TABLE);
-    let second = get(w, MARK_TABLE + 1);
-    let third = get(w, MARK_TABLE + 2);
-    let last = get(w, MARK_TABLE + 3);
-    put_four(w, MARKS_BEFORE, first, second, third, last);
+    for a in 0..4u32 {
+        let mark = mark_of(w, a);
+        put(w, plus(MARKS_BEFORE, a), mark);
+    }
     number_at(w, MARKS_BEFORE)
 }
 
+fn mark_of(w: &Numbers, a: u32) -> u32 {
+    get(w, plus(MARK_TABLE, a))
+}
+
+fn in_mark(a: u32) -> Option<Spot> {
+    Some(Spot::Number(plus(MARK_TABLE, a)))
+}
+
+// The last byte of a page of the disk.
+fn in_disk(a: u32) -> Option<Spot> {
+    Some(Spot::Byte(plus(disk_page(a), 255)))
+}
+
 // After a batch of one request: one that is refused, an accepted write, or an accepted revert.
-pub(crate) fn in_batch(w: &Numbers, b: &Bytes, fault: u32, r: Request) -> u32 {
+pub(crate) fn in_batch(w: &Numbers, b: &Bytes, fault: u32, r: Request) -> Option<Spot> {
     if byte(b, ANSWERS) >= 4 {
         return in_kept(fault, 66);
     }
-    let operation = r.operation;
-    match operation {
-        1 => in_write(fault, r.address),
+    match r.operation {
+        1 => in_write(fault, r.address % 4),
         3 => in_revert(w, fault),
-        _ => NOWHERE,
+        _ => None,
     }
 }
 
-fn in_write(fault: u32, a: u32) -> u32 {
+fn in_write(fault: u32, a: u32) -> Option<Spot> {
     match fault {
-        63 | 64 => MARK_TABLE + a % 4,
-        65 => plus(BYTES, disk_page(a) + 255),
-        _ => NOWHERE,
+        63 | 64 => in_mark(a),
+        65 => in_disk(a),
+        _ => None,
     }
 }
 
-fn in_revert(w: &Numbers, fault: u32) -> u32 {
+fn in_revert(w: &Numbers, fault: u32) -> Option<Spot> {
     match fault {
-        60 => MARK_TABLE,
-        61 => in_mark(last_marked(w, 2, 2)),
-        62 => plus(BYTES, DISK),
-        _ => NOWHERE,
+        60 => in_mark(0),
+        61 => in_mark(last_marked(w, 2, 2)?),
+        62 => Some(Spot::Byte(DISK)),
+        _ => None,
     }
 }
 
 // The first mark, or the first byte of the disk, where the fault is the first of two or the second.
-pub(crate) fn in_kept(fault: u32, first: u32) -> u32 {
-    if fault == first {
-        return MARK_TABLE;
-    }
-    if fault == plus(first, 1) {
-        plus(BYTES, DISK)
-    } else {
-        NOWHERE
+pub(crate) fn in_kept(fault: u32, first: u32) -> Option<Spot> {
+    match minus(fault, first) {
+        0 => in_mark(0),
+        1 => Some(Spot::Byte(DISK)),
+        _ => None,
     }
 }
 
-fn in_mark(a: u32) -> u32 {
-    if a == NONE {
-        NOWHERE
-    } else {
-        plus(MARK_TABLE, a)
-    }
+// The last page with a mark or another.
+fn last_marked(w: &Numbers, mark: u32, other: u32) -> Option<u32> {
+    (0..get(w, SIZE))
+        .rev()
+        .find(|a| mark_of(w, *a) == mark || mark_of(w, *a) == other)
 }
 
-// The last page with a mark or another; NONE where there is none.
-fn last_marked(w: &Numbers, mark: u32, other: u32) -> u32 {
-    let mut last: u32 = NONE;
-    for a in 0..get(w, SIZE) {
-        if is_one_of(get(w, plus(MARK_TABLE, a)), mark, other) {
-            last = a;
-        }
-    }
-    last
-}
-
-fn is_one_of(n: u32, a: u32, b: u32) -> bool {
-    if n == a { true } else { n == b }
-}
-
-// In what live reads and a step gave, accepted or refused.
-pub(crate) fn spot(w: &Numbers, b: &Bytes, fault: u32, accepted: bool) -> u32 {
-    if !accepted {
-        return in_refused(fault);
-    }
+// In what live reads and a step gave.
+pub(crate) fn spot(w: &Numbers, b: &Bytes, fault: u32) -> Option<Spot> {
     match fault {
-        68 => plus(BYTES, live_at(get(w, SIZE)) + 256),
-        69 => plus(BYTES, live_at(0) + 256),
+        68 => Some(Spot::Byte(live_at(get(w, SIZE)) + 256)),
+        69 => Some(Spot::Byte(live_at(0) + 256)),
         70 => in_neighbours(b),
         71..=73 => in_read(w, b, fault),
-        74 | 75 => plus(COPIED, minus(fault, 74)),
-        76 => in_order(first_turned(w, fault), last_marked(w, 0, 2)),
-        77..=81 => in_turned(fault, first_turned(w, fault)),
-        _ => NOWHERE,
+        74 | 75 => Some(Spot::Number(COPIED + (fault - 74))),
+        // The page of a larger address turned in place of the first.
+        76 => Some(Spot::Marks(
+            first_turned(w, fault)?,
+            last_marked(w, 0, 2)?,
+        )),
+        77..=79 => in_mark(first_turned(w, fault)?),
+        80 | 81 => in_disk(first_turned(w, fault)?),
+        _ => None,
     }
 }
 
-fn in_refused(fault: u32) -> u32 {
+// In what live reads and a step gave that were refused.
+pub(crate) fn in_refused(fault: u32) -> Option<Spot> {
     match fault {
-        82 | 83 => plus(BYTES, plus(live_at(0), plus(minus(fault, 82), 256))),
-        84 | 85 => plus(COPIED, minus(fault, 84)),
-        _ => NOWHERE,
+        82 | 83 => Some(Spot::Byte(live_at(0) + (fault - 82) + 256)),
+        84 | 85 => Some(Spot::Number(COPIED + (fault - 84))),
+        _ => None,
     }
 }
 
-// Whether a live read gave a page.
-fn gave(b: &Bytes, a: u32) -> bool {
-    byte(b, plus(live_at(a), 257)) == 1
+// 1 where a live read gave a page, 0 where it gave none.
+fn page_given(b: &Bytes, a: u32) -> u32 {
+    byte(b, plus(live_at(a), 257))
 }
 
 // Two pages that are not the same, of the first two addresses.
-fn in_neighbours(b: &Bytes) -> u32 {
-    if !gave(b, 0) {
-        return NOWHERE;
-    }
-    if !gave(b, 1) {
-        return NOWHERE;
-    }
-    if byte(b, live_at(0)) == byte(b, live_at(1)) {
-        NOWHERE
+fn in_neighbours(b: &Bytes) -> Option<Spot> {
+    let both = page_given(b, 0) == 1 && page_given(b, 1) == 1;
+    if both && byte(b, live_at(0)) != byte(b, live_at(1)) {
+        Some(Spot::Reads)
     } else {
-        SWAPPED_READS
+        None
     }
 }
 
 // The first read that gave no page, or the first that gave one, or its last byte.
-fn in_read(w: &Numbers, b: &Bytes, fault: u32) -> u32 {
+fn in_read(w: &Numbers, b: &Bytes, fault: u32) -> Option<Spot> {
     let at: u32 = if fault == 73 { 255 } else { 257 };
-    let given: u32 = if fault == 71 { 0 } else { 1 };
-    for a in 0..get(w, SIZE) {
-        if byte(b, plus(live_at(a), 257)) == given {
-            return plus(BYTES, plus(live_at(a), at));
-        }
-    }
-    NOWHERE
+    let given = u32::from(fault != 71);
+    let a = (0..get(w, SIZE)).find(|a| page_given(b, *a) == given)?;
+    Some(Spot::Byte(plus(live_at(a), at)))
 }
 
-// The first page that the step turned and that the fault can be in; NONE where there is none.
-fn first_turned(w: &Numbers, fault: u32) -> u32 {
-    for a in 0..get(w, SIZE) {
-        if turned(w, fault, a) {
-            return a;
-        }
-    }
-    NONE
+// The first page that the step turned and that the fault can be in.
+fn first_turned(w: &Numbers, fault: u32) -> Option<u32> {
+    (0..get(w, SIZE)).find(|a| turned(w, fault, *a))
 }
 
 fn turned(w: &Numbers, fault: u32, a: u32) -> bool {
     let before = get(w, plus(MARKS_BEFORE, a));
-    let after = get(w, plus(MARK_TABLE, a));
+    let after = mark_of(w, a);
     if before % 2 == 1 {
         return false;
     }
@@ -199,27 +154,5 @@ fn turned(w: &Numbers, fault: u32, a: u32) -> bool {
         79 => plus(after, plus(before, before)) == 5,
         80 => after == 1,
         _ => after % 2 == 1,
-    }
-}
-
-// The page of a larger address turned in place of the first.
-fn in_order(first: u32, other: u32) -> u32 {
-    if first == NONE {
-        return NOWHERE;
-    }
-    if other == NONE {
-        NOWHERE
-    } else {
-        SWAPPED_MARKS + first % 8 * 16 + other % 8
-    }
-}
-
-fn in_turned(fault: u32, a: u32) -> u32 {
-    if a == NONE {
-        return NOWHERE;
-    }
-    match fault {
-        80 | 81 => plus(BYTES, disk_page(a) + 255),
-        _ => plus(MARK_TABLE, a),
     }
 }

@@ -1,60 +1,34 @@
 // Faults in the lists of work orders: what another rule would give. What the lists gave is not read again, and so the fault is not taken out.
-use crate::faults::{NOWHERE, swap_byte};
-use crate::rows;
+use crate::faults::{add_byte, swap_byte};
+use crate::rows::order_with_cut;
+use crate::spots::Spot;
 use trial_words::layout::{
     ASKED, ASKS, BLANK, BRANCH_TABLE, Bytes, COUNT_BEFORE, FAULT, HEAD_BRANCHES, Numbers, list_at,
 };
 use trial_words::rows::{holds, row_at};
 use trial_words::words::{byte, get, minus, plus, put_byte};
 
-// Where a fault can stand: one of the lists of a turn.
-const LIST: u32 = 134144;
-
 // Two bytes of the area as they were, as a work order.
 const UNTOUCHED: u32 = 42405;
 
-pub(crate) fn is_spot(at: u32) -> bool {
-    if at < LIST { false } else { at < LIST + 48 }
-}
-
 // The first list that the fault can be in.
-pub(crate) fn spot(w: &Numbers, b: &Bytes, fault: u32, sound: bool) -> u32 {
-    for k in 0..get(w, ASKED) {
-        if suits(w, b, fault, k, sound) {
-            return LIST + k % 48;
-        }
-    }
-    NOWHERE
+pub(crate) fn spot(w: &Numbers, b: &Bytes, fault: u32, sound: bool) -> Option<Spot> {
+    (0..get(w, ASKED))
+        .find(|k| suits(w, b, fault, *k, sound))
+        .map(|k| Spot::List(k % 48))
 }
 
 fn suits(w: &Numbers, b: &Bytes, fault: u32, k: u32, sound: bool) -> bool {
     let refusal = byte(b, plus(list_at(k), 72));
-    if !sound {
-        return on_changed(fault, refusal);
-    }
     match fault {
-        97..=106 => if refusal == 0 {
-            in_given(w, b, fault, k)
-        } else {
-            false
-        },
-        107..=109 => refusal == 14,
-        110 => refusal == 8,
-        111 => refusal == 9,
+        97..=106 => sound && refusal == 0 && in_given(w, b, fault, k),
+        107..=109 => sound && refusal == 14,
+        110 => sound && refusal == 8,
+        111 => sound && refusal == 9,
+        // A list that the table checks refuse.
+        112..=114 => !sound && matches!(refusal, 1..=3),
         _ => false,
     }
-}
-
-// A list that the table checks refuse.
-fn on_changed(fault: u32, refusal: u32) -> bool {
-    match fault {
-        112..=114 => one_to_three(refusal),
-        _ => false,
-    }
-}
-
-fn one_to_three(n: u32) -> bool {
-    if n == 0 { false } else { n <= 3 }
 }
 
 // How many orders a list has, and one of them.
@@ -76,40 +50,34 @@ fn in_given(w: &Numbers, b: &Bytes, fault: u32, k: u32) -> bool {
         100 | 101 => n > 1,
         102 => first / 256 != first % 256,
         103 => first != UNTOUCHED,
-        104 => get(w, plus(asked_at(k), 1)) > plus(n, n),
-        105 => if get(w, HEAD_BRANCHES) < get(w, COUNT_BEFORE) {
-            order_with_cut(w, k) != first
-        } else {
-            false
-        },
-        106 => if first == 0 { false } else { n > 1 },
+        104 => lent_for(w, k) > plus(n, n),
+        105 => get(w, HEAD_BRANCHES) < get(w, COUNT_BEFORE) && order_at_cut(w, k) != first,
+        106 => first != 0 && n > 1,
         _ => true,
     }
 }
 
-fn asked_at(k: u32) -> u32 {
-    ASKS + k % 48 * 2
+// The moment of a list asked for, and the bytes lent for it.
+fn moment_of(w: &Numbers, k: u32) -> u32 {
+    get(w, ASKS + k % 48 * 2)
+}
+
+fn lent_for(w: &Numbers, k: u32) -> u32 {
+    get(w, ASKS + k % 48 * 2 + 1)
 }
 
 // The work order of the branch that holds a list's moment, if it had been taken over with the cut.
-fn order_with_cut(w: &Numbers, k: u32) -> u32 {
-    let moment = get(w, asked_at(k));
-    rows::other_order(w, 95, holder(w, moment, get(w, HEAD_BRANCHES)))
+fn order_at_cut(w: &Numbers, k: u32) -> u32 {
+    let moment = moment_of(w, k);
+    let branch = (0..get(w, HEAD_BRANCHES))
+        .find(|i| holds(w, row_at(BRANCH_TABLE, *i), moment))
+        .unwrap_or(0);
+    order_with_cut(w, branch)
 }
 
-// The branch row that holds a moment.
-fn holder(w: &Numbers, moment: u32, n: u32) -> u32 {
-    for i in 0..n {
-        if holds(w, row_at(BRANCH_TABLE, i), moment) {
-            return i;
-        }
-    }
-    0
-}
-
-pub(crate) fn shift(w: &Numbers, b: &mut Bytes, at: u32, put_in: bool) {
+pub(crate) fn shift(w: &Numbers, b: &mut Bytes, k: u32, put_in: bool) {
     if put_in {
-        change(w, b, get(w, FAULT), minus(at, LIST));
+        change(w, b, get(w, FAULT), k);
     }
 }
 
@@ -117,28 +85,21 @@ fn change(w: &Numbers, b: &mut Bytes, fault: u32, k: u32) {
     let at = list_at(k);
     let n = count_of(b, k);
     match fault {
-        97 | 110 | 112 => more(b, plus(at, 72)),
-        98 | 113 => more(b, plus(at, 74)),
+        97 | 110 | 112 => add_byte(b, plus(at, 72), 1),
+        98 | 113 => add_byte(b, plus(at, 74), 1),
         99 => turn(b, at, n),
         100 => leave_out_last(b, at, n),
         101 => leave_out_first(b, at, n),
         102 => swap_byte(b, at, plus(at, 1)),
         103 => blank(b, at, plus(n, n)),
-        104 => more(b, plus(at, plus(n, n))),
-        105 => put_order(b, at, order_with_cut(w, k)),
+        104 => add_byte(b, plus(at, plus(n, n)), 1),
+        105 => put_order(b, at, order_at_cut(w, k)),
         106 => put_order(b, at, 0),
-        107 => give(b, at, minus(at, 80), get(w, plus(asked_at(k), 1))),
+        107 => give(b, at, minus(at, 80), lent_for(w, k)),
         108 => put_byte(b, plus(at, 74), count_of(b, minus(k, 1))),
-        109 => more(b, at),
         111 => put_byte(b, plus(at, 72), 0),
-        _ => more(b, at),
+        _ => add_byte(b, at, 1),
     }
-}
-
-// A byte is one more.
-fn more(b: &mut Bytes, at: u32) {
-    let v = byte(b, at);
-    put_byte(b, at, plus(v, 1));
 }
 
 fn put_order(b: &mut Bytes, at: u32, order: u32) {
@@ -181,13 +142,9 @@ fn leave_out_first(b: &mut Bytes, at: u32, n: u32) {
 
 fn copy(b: &mut Bytes, from: u32, to: u32, n: u32) {
     for i in 0..n {
-        copy_byte(b, plus(from, i), plus(to, i));
+        let v = byte(b, plus(from, i));
+        put_byte(b, plus(to, i), v);
     }
-}
-
-fn copy_byte(b: &mut Bytes, from: u32, to: u32) {
-    let v = byte(b, from);
-    put_byte(b, to, v);
 }
 
 // A list that does not fit in n bytes is given, as far as it goes, as the one before it, which fits.

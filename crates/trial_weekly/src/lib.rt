@@ -5,9 +5,10 @@
 
 pub mod ways;
 
-ghost use Rattle.std.specs.Prelude.{◌≡◌, length, get_or};
+ghost use Rattle.std.specs.Prelude.{◌≡◌, get_or};
 
 use trial_calls::calls;
+use trial_calls::lent::Tables;
 use trial_judge::judge;
 use trial_lists::{encoding, lists};
 use trial_words::layout::{
@@ -23,61 +24,11 @@ pub const WEEKS: u32 = 5218;
 
 pub const BRANCH_ROWS: u32 = 4096;
 
-// What is lent to the store.
-type BranchTable = [u32; 16384];
-
-type RecordTable = [u32; 1536];
-
-type PlaceTable = [u32; 512];
-
-type NameTable = [u32; 96];
-
-type Slab = [u8; 131072];
-
-fn branch_table() -> [u32; 16384]
-    ensures { length result ≡ 16384 }
-{
-    [0u32; 16384]
-}
-
-fn record_table() -> [u32; 1536]
-    ensures { length result ≡ 1536 }
-{
-    [0u32; 1536]
-}
-
-fn place_table() -> [u32; 512]
-    ensures { length result ≡ 512 }
-{
-    [0u32; 512]
-}
-
-fn name_table() -> [u32; 96]
-    ensures { length result ≡ 96 }
-{
-    [0u32; 96]
-}
-
-fn slab_bytes() -> [u8; 131072]
-    ensures { length result ≡ 131072 }
-{
-    [0u8; 131072]
-}
-
-fn bytes() -> [u8; 12288]
-    ensures { length result ≡ 12288 }
-{
-    [0u8; 12288]
-}
+// What is lent to the store: 4096 branch rows, 512 record rows and places.
+type Store = Tables<16384, 1536, 512, 96, 131072>;
 
 // Room for 128 work orders.
 type List = [u8; 256];
-
-fn list_bytes() -> [u8; 256]
-    ensures { length result ≡ 256 }
-{
-    [0u8; 256]
-}
 
 // Eight pages, 4096 branch rows, 512 record rows and places.
 fn set_sizes(w: &mut Numbers) {
@@ -91,136 +42,98 @@ fn set_sizes(w: &mut Numbers) {
 pub fn run(w: &mut Numbers, behind: u32) -> u32
     ensures { result ≡ get_or w.new 77 0 }
 {
-    let mut bt = branch_table();
-    let mut rt = record_table();
-    let mut pt = place_table();
-    let mut nt = name_table();
-    let mut slab = slab_bytes();
+    let mut store = Store::blank();
     set_sizes(w);
     put(w, BEHIND, behind);
-    calls::make_over(w, &mut bt, &mut rt, &mut pt, &mut nt, &slab);
-    all_weeks(w, &mut bt, &mut rt, &mut pt, &mut nt, &mut slab);
+    let lent = store.lent(w);
+    calls::make_over(w, lent);
+    all_weeks(w, &mut store);
     number_at(w, LARGEST)
 }
 
-fn all_weeks(
-    w: &mut Numbers,
-    bt: &mut BranchTable,
-    rt: &mut RecordTable,
-    pt: &mut PlaceTable,
-    nt: &mut NameTable,
-    slab: &mut Slab,
-) {
-    let mut b = bytes();
+fn all_weeks(w: &mut Numbers, store: &mut Store) {
+    let mut b: Bytes = [0; 12288];
     for k in 0..WEEKS {
-        week(w, &mut b, bt, rt, pt, nt, slab, k);
+        week(w, &mut b, store, k);
     }
 }
 
-fn week(
-    w: &mut Numbers,
-    b: &mut Bytes,
-    bt: &mut BranchTable,
-    rt: &mut RecordTable,
-    pt: &mut PlaceTable,
-    nt: &mut NameTable,
-    slab: &mut Slab,
-    k: u32,
-) {
-    list_week(w, k, one_where(writes(k)));
-    hand_in(w, b, bt, rt, pt, nt, slab);
+fn week(w: &mut Numbers, b: &mut Bytes, store: &mut Store, k: u32) {
+    list_week(w, k);
+    hand_in(w, b, store);
     let behind = get(w, BEHIND);
-    if k % 4 == 3 {
-        if k >= behind {
-            month(w, b, bt, rt, pt, nt, slab, k, k - behind);
-        }
+    if k % 4 == 3 && k >= behind {
+        month(w, b, store, k, k - behind);
     }
 }
 
 // A reclaim to the beginning of an earlier week; then what is read there and now is compared, and the lists of work orders.
-fn month(
-    w: &mut Numbers,
-    b: &mut Bytes,
-    bt: &mut BranchTable,
-    rt: &mut RecordTable,
-    pt: &mut PlaceTable,
-    nt: &mut NameTable,
-    slab: &mut Slab,
-    k: u32,
-    earlier: u32,
-) {
-    put_request(w, 0, plain(5, 0, begins(earlier), 0));
+fn month(w: &mut Numbers, b: &mut Bytes, store: &mut Store, k: u32, earlier: u32) {
+    let then = begins(earlier);
+    let now = begins(plus(k, 1));
+    put_request(w, 0, plain(5, 0, then, 0));
     list(w, 1);
-    hand_in(w, b, bt, rt, pt, nt, slab);
-    lists::list_reads(w, begins(earlier));
-    hand_in(w, b, bt, rt, pt, nt, slab);
-    judge_reads(w, b, earlier, begins(earlier));
-    lists::list_reads(w, begins(plus(k, 1)));
-    hand_in(w, b, bt, rt, pt, nt, slab);
-    judge_reads(w, b, k, begins(plus(k, 1)));
-    judge_list(w, bt, rt, pt, nt, slab, begins(earlier));
-    judge_list(w, bt, rt, pt, nt, slab, begins(plus(k, 1)));
+    hand_in(w, b, store);
+    read_back(w, b, store, earlier, then);
+    read_back(w, b, store, k, now);
+    judge_list(w, store, then);
+    judge_list(w, store, now);
+}
+
+// Every page is read at a moment that has the pages of a week.
+fn read_back(w: &mut Numbers, b: &mut Bytes, store: &mut Store, week: u32, moment: u32) {
+    lists::list_reads(w, moment);
+    hand_in(w, b, store);
+    judge_reads(w, b, week, moment);
 }
 
 // The list of work orders at a moment. Each branch of the run is cut from the one before it: on the way are all that have begun by then.
-fn judge_list(
-    w: &mut Numbers,
-    bt: &BranchTable,
-    rt: &RecordTable,
-    pt: &PlaceTable,
-    nt: &NameTable,
-    slab: &Slab,
-    moment: u32,
-) {
-    let mut list = list_bytes();
-    calls::list_over(w, bt, rt, pt, nt, slab, moment, &mut list);
-    let rows = begun(bt, get(w, HEAD_BRANCHES), moment);
+fn judge_list(w: &mut Numbers, store: &mut Store, moment: u32) {
+    let mut list: List = [0; 256];
+    let lent = store.lent(w);
+    calls::list_over(w, lent, moment, &mut list);
+    let rows = begun(store, get(w, HEAD_BRANCHES), moment);
     put(w, COUNT, rows);
     same(w, LIST_COUNT, COUNT);
-    judge_orders(w, bt, &list, rows);
+    judge_orders(w, store, &list, rows);
     add(w, LISTED, 1);
-    if rows > get(w, LONGEST) {
-        put(w, LONGEST, rows);
-    }
+    largest(w, LONGEST, rows);
 }
 
-fn start_of(bt: &BranchTable, k: u32) -> u32 {
+fn start_of(store: &Store, k: u32) -> u32 {
     let i = (k % 4096 * 4) as usize;
-    bt[i]
+    store.branches[i]
 }
 
 // How many of n branches have begun by a moment.
-fn begun(bt: &BranchTable, n: u32, moment: u32) -> u32 {
-    let mut rows: u32 = 0;
-    for k in 0..n {
-        rows = plus(rows, one_where(start_of(bt, k) <= moment));
-    }
-    rows
+fn begun(store: &Store, n: u32, moment: u32) -> u32 {
+    let rows = (0..n).filter(|k| start_of(store, *k) <= moment).count();
+    (rows % 4294967296) as u32
 }
 
-fn wide(b: u8) -> u32 {
-    b as u32
-}
-
-// The i-th work order of a list.
-fn order_in(list: &List, i: u32) -> u32 {
-    let k = (i % 128 * 2) as usize;
-    let high = wide(list[k]);
-    let low = wide(list[k + 1]);
-    plus(high % 256 * 256, low)
-}
-
-fn judge_orders(w: &mut Numbers, bt: &BranchTable, list: &List, rows: u32) {
-    for i in 0..rows {
-        let start = start_of(bt, minus(rows, plus(i, 1)));
-        let due: u32 = if start == 0 {
-            0
-        } else {
-            work_order(minus(start / 2, 1))
-        };
-        if order_in(list, i) != due {
+// The work orders of a list, from the newest of so many branches to the first.
+fn judge_orders(w: &mut Numbers, store: &Store, list: &List, rows: u32) {
+    for (k, order) in (0..rows).rev().zip(list.chunks(2)) {
+        if order_in(order) != order_due(start_of(store, k)) {
             add(w, WRONG, 1);
         }
+    }
+}
+
+// The work order in two bytes.
+fn order_in(bytes: &[u8]) -> u32 {
+    match bytes {
+        [high, low] => u32::from(u16::from_be_bytes([*high, *low])),
+        _ => 0,
+    }
+}
+
+// The work order of the branch that starts at a moment.
+fn order_due(start: u32) -> u32 {
+    if start == 0 {
+        0
+    } else {
+        work_order(minus(start / 2, 1))
     }
 }
 
@@ -236,15 +149,12 @@ fn work_order(k: u32) -> u32 {
 
 // The week's page is the one of its number; the eighth page is written every ten years or so.
 fn writes(k: u32) -> bool {
-    if k % 8 == 7 { k % 512 == 7 } else { true }
+    k % 8 != 7 || k % 512 == 7
 }
 
-fn one_where(yes: bool) -> u32 {
-    if yes { 1 } else { 0 }
-}
-
-// The requests of a week; n are written before the mark, 1 or 0.
-fn list_week(w: &mut Numbers, k: u32, n: u32) {
+// The requests of a week; one is written before the mark, or none.
+fn list_week(w: &mut Numbers, k: u32) {
+    let n = u32::from(writes(k));
     put_request(w, 0, plain(1, k % 8, 0, k % 256));
     put_request(w, n, plain(2, 0, 0, 0));
     put_request(w, plus(n, 1), plain(1, plus(k, 1) % 8, 0, 255));
@@ -259,20 +169,13 @@ fn list(w: &mut Numbers, n: u32) {
 }
 
 // A batch of the requests listed, which answers each and reads every record row; its refusals and the branches are counted.
-fn hand_in(
-    w: &mut Numbers,
-    b: &mut Bytes,
-    bt: &mut BranchTable,
-    rt: &mut RecordTable,
-    pt: &mut PlaceTable,
-    nt: &mut NameTable,
-    slab: &mut Slab,
-) {
+fn hand_in(w: &mut Numbers, b: &mut Bytes, store: &mut Store) {
     encoding::encode(w, b);
     put(w, ROWS_DUE, get(w, HEAD_RECORDS));
-    calls::ask_over(w, b, bt, rt, pt, nt, slab);
+    let lent = store.lent(w);
+    calls::ask_over(w, b, lent);
     count_answers(w, b, get(w, plus(STOP, 1)));
-    count_branches(w, get(w, HEAD_BRANCHES));
+    largest(w, LARGEST, get(w, HEAD_BRANCHES));
     same(w, plus(STOP, 1), COUNT);
     same(w, ROWS_READ, ROWS_DUE);
 }
@@ -284,10 +187,10 @@ fn same(w: &mut Numbers, i: u32, j: u32) {
     }
 }
 
-fn count_branches(w: &mut Numbers, branches: u32) {
-    if branches > get(w, LARGEST) {
-        put(w, LARGEST, branches);
-    }
+// The number at an index becomes another one that is larger.
+fn largest(w: &mut Numbers, i: u32, n: u32) {
+    let so_far = get(w, i);
+    put(w, i, so_far.max(n));
 }
 
 fn count_answers(w: &mut Numbers, b: &Bytes, n: u32) {
@@ -312,24 +215,18 @@ fn judge_reads(w: &mut Numbers, b: &Bytes, week: u32, moment: u32) {
     }
 }
 
-// The number of the last week up to a week that wrote a page, and one more; 0 where none did.
-fn written(a: u32, week: u32) -> u32 {
-    for i in 0..plus(week, 1) {
-        let k = minus(week, i);
-        if k % 8 == a {
-            if writes(k) {
-                return plus(k, 1);
-            }
-        }
-    }
-    0
+// The last week up to a week that wrote a page.
+fn written(a: u32, week: u32) -> Option<u32> {
+    (0..plus(week, 1)).rev().find(|k| k % 8 == a && writes(*k))
 }
 
-fn judge_page(w: &mut Numbers, b: &Bytes, last: u32, moment: u32) {
+fn judge_page(w: &mut Numbers, b: &Bytes, last: Option<u32>, moment: u32) {
     let at = plus(ANSWERS, get(w, SENT));
-    let k = minus(last, 1);
-    let page: u32 = if last == 0 { 0 } else { k % 256 + 1 };
-    judge::judge_read(w, b, at, moment, begins(k), page);
-    add(w, SENT, if last == 0 { 5 } else { PAGE_ANSWER });
+    let (date, page, sent) = match last {
+        Some(k) => (begins(k), k % 256 + 1, PAGE_ANSWER),
+        None => (0, 0, 5),
+    };
+    judge::judge_read(w, b, at, moment, date, page);
+    add(w, SENT, sent);
     add(w, READ, 1);
 }

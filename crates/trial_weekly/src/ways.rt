@@ -1,22 +1,16 @@
 // The branches of the weekly run as the reverts make them, none of which goes: how many are on the way from now to the first.
-ghost use Rattle.std.specs.Prelude.{◌≡◌, ◌≤◌, length};
+ghost use Rattle.std.specs.Prelude.{◌≤◌};
 
 use crate::{WEEKS, begins};
 use trial_words::layout::Numbers;
-use trial_words::words::{get, minus, plus, put};
-
-fn numbers() -> [u32; 5632]
-    ensures { length result ≡ 5632 }
-{
-    [0u32; 5632]
-}
+use trial_words::words::{get, put};
 
 // After how many weeks so many branches are on the way; 0 where that takes more than a hundred years.
 pub fn full_after(rows: u32) -> u32
     ensures { result ≤ 5218 }
 {
-    let mut starts = numbers();
-    let mut parents = numbers();
+    let mut starts: Numbers = [0; 5632];
+    let mut parents: Numbers = [0; 5632];
     for k in 0..WEEKS {
         make(&mut starts, &mut parents, k, k + 1);
         if way(&parents, k + 1) >= rows {
@@ -35,13 +29,10 @@ fn make(starts: &mut Numbers, parents: &mut Numbers, week: u32, branch: u32) {
 
 // The newest of n branches that does not start behind a moment.
 fn holder(starts: &Numbers, n: u32, moment: u32) -> u32 {
-    for i in 0..n {
-        let k = minus(n, plus(i, 1));
-        if get(starts, k) <= moment {
-            return k;
-        }
-    }
-    0
+    (0..n)
+        .rev()
+        .find(|k| get(starts, *k) <= moment)
+        .unwrap_or(0)
 }
 
 // How many branches are on the way from one to the first, which is branch 0.
