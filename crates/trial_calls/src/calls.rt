@@ -160,14 +160,7 @@ pub fn look(w: &mut Numbers, b: &mut Bytes) -> u32
 // A list of work orders at a moment.
 fn list_one(h: Head, t: &Lent, moment: u32, list: &mut [u8]) -> Listed {
     listing::list_orders(
-        h,
-        t.branches,
-        t.records,
-        t.places,
-        t.names,
-        t.slab,
-        moment,
-        list,
+        h, t.branches, t.records, t.places, t.names, t.slab, moment, list,
     )
 }
 

@@ -1,5 +1,5 @@
 // Values copied and compared, as many as both sides have.
-ghost use Rattle.std.specs.Prelude.{◌≡◌, ◌++◌, ◌%◌, ◌^◌, length, take, drop};
+ghost use Rattle.std.specs.Prelude.{◌≡◌, ◌++◌, ◌%◌, ◌^◌, length, replicate, take, drop};
 
 // A length as a number.
 pub(crate) fn number(n: usize) -> u32
@@ -49,7 +49,7 @@ pub(crate) fn differing<T: Copy + PartialEq>(s: &[T], t: &[T]) -> u32 {
 
 // N values from an index on; past the end there are blanks.
 pub(crate) fn area<T: Copy, const N: usize>(from: &[T], at: u32, blank: T) -> [T; N]
-    ensures { length result ≡ N }
+    ensures { result ≡ take N (drop at from.now) ++ drop (length (drop at from.now)) (replicate N blank) }
 {
     let mut values = [blank; N];
     copy(behind(from, at), &mut values);
@@ -58,7 +58,7 @@ pub(crate) fn area<T: Copy, const N: usize>(from: &[T], at: u32, blank: T) -> [T
 
 // Values go to their index.
 pub(crate) fn put_back<T: Copy>(to: &mut [T], at: u32, values: &[T])
-    ensures { length to.new ≡ length to.old }
+    ensures { to.new ≡ take at to.old ++ (take (length (drop at to.old)) values.now ++ drop (length values.now) (drop at to.old)) }
 {
     let at = to.len().min(at as usize);
     copy(values, &mut to[at..]);

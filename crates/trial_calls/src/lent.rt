@@ -1,5 +1,5 @@
 // What is lent to the store.
-ghost use Rattle.std.specs.Prelude.{◌≡◌, length};
+ghost use Rattle.std.specs.Prelude.{◌≡◌, length, replicate, slice_index, take};
 
 use crate::copies::{area, behind, differing, first_mut, number, put_back, save};
 use trial_words::layout::{
@@ -29,10 +29,16 @@ pub struct Lent<'a> {
     pub slab: &'a mut [u8],
 }
 
-impl<const B: usize, const R: usize, const P: usize, const N: usize, const S: usize>
-    Tables<B, R, P, N, S>
-{
-    pub fn blank() -> Self {
+impl<const B: usize, const R: usize, const P: usize, const N: usize, const S: usize> Tables<
+    B,
+    R,
+    P,
+    N,
+    S,
+> {
+    pub fn blank() -> Self
+        ensures { result ≡ record { branches = replicate B 0; records = replicate R 0; places = replicate P 0; names = replicate N 0; slab = replicate S 0 } }
+    {
         Tables {
             branches: [0; B],
             records: [0; R],
@@ -42,7 +48,13 @@ impl<const B: usize, const R: usize, const P: usize, const N: usize, const S: us
         }
     }
 
-    pub fn lent<'a>(&'a mut self, w: &Numbers) -> Lent<'a> {
+    pub fn lent<'a>(&'a mut self, w: &Numbers) -> Lent<'a>
+        ensures branches { result.branches.now ≡ take (slice_index w.now 10) self.old.branches }
+        ensures records { result.records.now ≡ take (slice_index w.now 11) self.old.records }
+        ensures places { result.places.now ≡ take (slice_index w.now 12) self.old.places }
+        ensures names { result.names.now ≡ take (slice_index w.now 13) self.old.names }
+        ensures slab { result.slab.now ≡ take (slice_index w.now 14) self.old.slab }
+    {
         Lent {
             branches: first_mut(&mut self.branches, get(w, BRANCH_LENGTH)),
             records: first_mut(&mut self.records, get(w, RECORD_LENGTH)),
@@ -56,7 +68,7 @@ impl<const B: usize, const R: usize, const P: usize, const N: usize, const S: us
 // Those of a list, with room for rows more of branches and for a row more of names.
 pub(crate) type Copies = Tables<84, 64, 64, 99, 4352>;
 
-impl Tables<84, 64, 64, 99, 4352> {
+impl Copies {
     pub(crate) fn of(w: &Numbers, b: &Bytes) -> Self {
         Tables {
             branches: area(w, BRANCH_TABLE, 0),
@@ -98,14 +110,19 @@ pub(crate) struct LentLive<'a> {
 
 impl<const D: usize> Live<D> {
     // Every page is stale.
-    pub(crate) fn blank() -> Self {
+    pub(crate) fn blank() -> Self
+        ensures { result ≡ record { disk = replicate D 0; marks = replicate 8 0 } }
+    {
         Live {
             disk: [0; D],
             marks: [0; 8],
         }
     }
 
-    pub(crate) fn lent<'a>(&'a mut self, w: &Numbers) -> LentLive<'a> {
+    pub(crate) fn lent<'a>(&'a mut self, w: &Numbers) -> LentLive<'a>
+        ensures disk { result.disk.now ≡ take (slice_index w.now 480) self.old.disk }
+        ensures marks { result.marks.now ≡ take (slice_index w.now 481) self.old.marks }
+    {
         let marks = &mut self.marks;
         LentLive {
             disk: first_mut(&mut self.disk, get(w, DISK_LENGTH)),

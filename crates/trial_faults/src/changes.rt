@@ -5,8 +5,8 @@ ghost use Rattle.std.specs.Prelude.{◌≡◌, get_or};
 use crate::faults::swap_rows;
 use trial_words::layout::{
     BRANCH_LENGTH, BRANCH_ROWS, BRANCH_TABLE, CHANGE, CHANGES, DISK_LENGTH, HEAD, HEAD_NOW, LAST,
-    MARK_TABLE, NAME_TABLE, Numbers, PLACE_ROWS, PLACE_TABLE, RECORD_ROWS, RECORD_TABLE, REPLACED,
-    SIZE, record_row,
+    MARK_LENGTH, MARK_TABLE, NAME_LENGTH, NAME_TABLE, Numbers, PLACE_LENGTH, PLACE_ROWS,
+    PLACE_TABLE, RECORD_LENGTH, RECORD_ROWS, RECORD_TABLE, REPLACED, SIZE, SLAB_LENGTH, record_row,
 };
 use trial_words::words::{add, get, minus, number_at, plus, put};
 
@@ -38,51 +38,48 @@ pub fn count(w: &Numbers) -> u32
     ensures { get_or w.now 57 0 ≡ 0 → result ≡ 0 }
 {
     if number_at(w, CHANGES) == 0 {
-        return 0;
+        0
+    } else {
+        plus(replacements(w), swaps(w))
     }
-    plus(replacements(w), swaps(w))
 }
 
 // Where the c-th number stands: six of the head, five lengths, then the name rows, the other tables and the live disk.
 fn place_of(w: &Numbers, c: u32) -> u32 {
-    if c < 6 {
-        return plus(HEAD, c);
+    match c {
+        0..=5 => HEAD + c,
+        6..=10 => BRANCH_LENGTH + (c - 6),
+        11..=19 => NAME_TABLE + (c - 11),
+        _ => table_place(
+            c - (11 + FIRST_NAMES),
+            branch_numbers(w),
+            record_numbers(w),
+            get(w, PLACE_ROWS),
+        ),
     }
-    if c < 11 {
-        return plus(BRANCH_LENGTH, minus(c, 6));
-    }
-    if c < 11 + FIRST_NAMES {
-        return plus(NAME_TABLE, minus(c, 11));
-    }
-    table_place(
-        minus(c, 11 + FIRST_NAMES),
-        branch_numbers(w),
-        record_numbers(w),
-        get(w, PLACE_ROWS),
-    )
 }
 
 fn table_place(i: u32, branches: u32, records: u32, places: u32) -> u32 {
     if i < branches {
         return plus(BRANCH_TABLE, i);
     }
-    let k = minus(i, branches);
+    let k = i - branches;
     if k < records {
         return plus(RECORD_TABLE, k);
     }
-    let p = minus(k, records);
+    let p = k - records;
     if p < places {
         plus(PLACE_TABLE, p)
     } else {
-        disk_place(minus(p, places))
+        disk_place(p - places)
     }
 }
 
 fn disk_place(i: u32) -> u32 {
     if i < 2 {
-        plus(DISK_LENGTH, i)
+        DISK_LENGTH + i
     } else {
-        plus(MARK_TABLE, minus(i, 2))
+        plus(MARK_TABLE, i - 2)
     }
 }
 
@@ -119,12 +116,12 @@ fn new_value(w: &Numbers, at: u32, old: u32, v: u32) -> u32 {
 // A length is at most that of what can be lent, and a mark is half a byte's range, so that 128 can be added.
 fn limited(at: u32, n: u32) -> u32 {
     match at {
-        10 => n % 85,
-        11 | 12 => n % 65,
-        13 => n % 100,
-        14 => n % 4353,
-        480 => n % 1281,
-        481 => n % 9,
+        BRANCH_LENGTH => n % 85,
+        RECORD_LENGTH | PLACE_LENGTH => n % 65,
+        NAME_LENGTH => n % 100,
+        SLAB_LENGTH => n % 4353,
+        DISK_LENGTH => n % 1281,
+        MARK_LENGTH => n % 9,
         500..=507 => n % 128,
         _ => n,
     }
@@ -166,7 +163,7 @@ pub fn make(w: &mut Numbers) -> u32
     if change < first {
         replace(w, change);
     } else {
-        swap_records(w, minus(change, first));
+        swap_records(w, change - first);
     }
     spoil_mark(w, change, 128);
     number_at(w, REPLACED)
@@ -183,7 +180,7 @@ pub fn undo(w: &mut Numbers) -> u32
     if change < first {
         put_back(w, change);
     } else {
-        swap_records(w, minus(change, first));
+        swap_records(w, change - first);
     }
     old
 }

@@ -3,7 +3,8 @@
 // or the branch rows, the marks of the live disk or the lists of work orders are those of another rule.
 // Kept: the faults are numbered from 1, as the table of numbers holds them (FAULT) and the program `trials` names them; 114 names in place of
 // the numbers would be no plainer, since most arms take a run of them.
-ghost use Rattle.std.specs.Prelude.{◌≡◌, get_or};
+ghost use Rattle.std.specs.Prelude.{◌≡◌, ◌+◌, ◌%◌, ◌^◌, MatchOption, Some, get_or, slice_index};
+ghost use Rattle.trial_faults.specs.declared.spots.Spot.TheVariants.{Byte};
 
 use crate::spots::{NOWHERE, Spot};
 use crate::turns::Turn;
@@ -18,7 +19,9 @@ use trial_words::request::listed;
 use trial_words::words::{add, byte, get, minus, number_at, plus, put, put_byte};
 
 // The fault that the family puts in.
-fn fault_of(w: &Numbers) -> Option<u32> {
+fn fault_of(w: &Numbers) -> Option<u32>
+    ensures { MatchOption result (slice_index w.now 59 ≡ 0) (λ fault. fault ≡ slice_index w.now 59) }
+{
     match get(w, FAULT) {
         0 => None,
         fault => Some(fault),
@@ -49,7 +52,9 @@ fn spot(w: &Numbers, b: &Bytes, fault: u32) -> Option<Spot> {
 }
 
 // A byte of the answer area.
-fn in_answers(i: u32) -> Option<Spot> {
+fn in_answers(i: u32) -> Option<Spot>
+    ensures { result ≡ Some (Byte ((8192 + i) % 2 ^ 32)) }
+{
     Some(Spot::Byte(plus(ANSWERS, i)))
 }
 

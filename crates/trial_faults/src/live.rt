@@ -1,5 +1,6 @@
 // Faults in the live disk and its marks as a batch or a copying step left them, and in what live reads and steps gave.
-ghost use Rattle.std.specs.Prelude.{◌≡◌, get_or};
+ghost use Rattle.std.specs.Prelude.{◌≡◌, ◌+◌, ◌*◌, ◌%◌, ◌^◌, ◌<◌, Some, get_or, slice_index};
+ghost use Rattle.trial_faults.specs.declared.spots.Spot.TheVariants.{Byte, Number};
 
 use crate::spots::Spot;
 use trial_words::layout::{
@@ -29,17 +30,23 @@ pub fn note_before(w: &mut Numbers) -> u32
     number_at(w, MARKS_BEFORE)
 }
 
-fn mark_of(w: &Numbers, a: u32) -> u32 {
+fn mark_of(w: &Numbers, a: u32) -> u32
+    ensures { a < 8 → result ≡ slice_index w.now (500 + a) }
+{
     get(w, plus(MARK_TABLE, a))
 }
 
-fn in_mark(a: u32) -> Option<Spot> {
+fn in_mark(a: u32) -> Option<Spot>
+    ensures { result ≡ Some (Number ((500 + a) % 2 ^ 32)) }
+{
     Some(Spot::Number(plus(MARK_TABLE, a)))
 }
 
 // The last byte of a page of the disk.
-fn in_disk(a: u32) -> Option<Spot> {
-    Some(Spot::Byte(plus(disk_page(a), 255)))
+fn in_disk(a: u32) -> Option<Spot>
+    ensures { result ≡ Some (Byte (6656 + a % 4 * 256 + 255)) }
+{
+    Some(Spot::Byte(disk_page(a) + 255))
 }
 
 // After a batch of one request: one that is refused, an accepted write, or an accepted revert.
@@ -96,10 +103,7 @@ pub(crate) fn spot(w: &Numbers, b: &Bytes, fault: u32) -> Option<Spot> {
         71..=73 => in_read(w, b, fault),
         74 | 75 => Some(Spot::Number(COPIED + (fault - 74))),
         // The page of a larger address turned in place of the first.
-        76 => Some(Spot::Marks(
-            first_turned(w, fault)?,
-            last_marked(w, 0, 2)?,
-        )),
+        76 => Some(Spot::Marks(first_turned(w, fault)?, last_marked(w, 0, 2)?)),
         77..=79 => in_mark(first_turned(w, fault)?),
         80 | 81 => in_disk(first_turned(w, fault)?),
         _ => None,

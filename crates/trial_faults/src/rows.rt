@@ -55,10 +55,38 @@ fn why_kept(w: &Numbers, row: u32) -> Reasons {
 pub(crate) fn in_reclaim(w: &Numbers, fault: u32) -> Option<Spot> {
     let n = get(w, HEAD_BRANCHES);
     let rows = match fault {
-        50 => kept_for(w, Reasons { recorded: true, ..NO_REASON }, n)?,
-        51 => kept_for(w, Reasons { named: true, ..NO_REASON }, n)?,
-        52 => kept_for(w, Reasons { at_floor: true, ..NO_REASON }, n)?,
-        53 => kept_for(w, Reasons { first: true, ..NO_REASON }, n)?,
+        50 => kept_for(
+            w,
+            Reasons {
+                recorded: true,
+                ..NO_REASON
+            },
+            n,
+        )?,
+        51 => kept_for(
+            w,
+            Reasons {
+                named: true,
+                ..NO_REASON
+            },
+            n,
+        )?,
+        52 => kept_for(
+            w,
+            Reasons {
+                at_floor: true,
+                ..NO_REASON
+            },
+            n,
+        )?,
+        53 => kept_for(
+            w,
+            Reasons {
+                first: true,
+                ..NO_REASON
+            },
+            n,
+        )?,
         54 | 55 => taken_over(w, fault, n)?,
         95 => order_taken_over(w, n)?,
         _ if n < get(w, COUNT_BEFORE) => Rows::AsBefore,

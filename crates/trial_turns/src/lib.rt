@@ -26,7 +26,7 @@ pub fn family(w: &mut Numbers) -> u32
 }
 
 fn all_turns(w: &mut Numbers, b: &mut Bytes) {
-    for _ in 0..4294967295u32 {
+    for _ in 0..u32::MAX {
         let turn = Turn::next(w);
         if turn == Turn::Ended {
             return;

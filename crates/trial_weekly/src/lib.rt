@@ -97,7 +97,7 @@ fn judge_list(w: &mut Numbers, store: &mut Store, moment: u32) {
     same(w, LIST_COUNT, COUNT);
     judge_orders(w, store, &list, rows);
     add(w, LISTED, 1);
-    largest(w, LONGEST, rows);
+    raise(w, LONGEST, rows);
 }
 
 fn start_of(store: &Store, k: u32) -> u32 {
@@ -175,7 +175,7 @@ fn hand_in(w: &mut Numbers, b: &mut Bytes, store: &mut Store) {
     let lent = store.lent(w);
     calls::ask_over(w, b, lent);
     count_answers(w, b, get(w, plus(STOP, 1)));
-    largest(w, LARGEST, get(w, HEAD_BRANCHES));
+    raise(w, LARGEST, get(w, HEAD_BRANCHES));
     same(w, plus(STOP, 1), COUNT);
     same(w, ROWS_READ, ROWS_DUE);
 }
@@ -187,8 +187,8 @@ fn same(w: &mut Numbers, i: u32, j: u32) {
     }
 }
 
-// The number at an index becomes another one that is larger.
-fn largest(w: &mut Numbers, i: u32, n: u32) {
+// The number at an index becomes another one where that is larger.
+fn raise(w: &mut Numbers, i: u32, n: u32) {
     let so_far = get(w, i);
     put(w, i, so_far.max(n));
 }

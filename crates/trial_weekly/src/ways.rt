@@ -6,6 +6,7 @@ use trial_words::layout::Numbers;
 use trial_words::words::{get, put};
 
 // After how many weeks so many branches are on the way; 0 where that takes more than a hundred years.
+// Kept: 0 in place of None, since the clause of this public function bounds its result as a number.
 pub fn full_after(rows: u32) -> u32
     ensures { result ≤ 5218 }
 {

@@ -66,6 +66,7 @@ pub(crate) struct Family {
     pub(crate) changes: bool,
 }
 
+// Every list of one of the 18 letters.
 const PLAIN: Family = Family {
     name: None,
     mode: Mode::Alone,
@@ -79,47 +80,260 @@ const PLAIN: Family = Family {
     changes: false,
 };
 
+// Drawn lists of 40 batches.
+const DRAWN: Family = Family {
+    mode: Mode::Drawn,
+    letters: 1,
+    length: 40,
+    lists: 1000,
+    ..PLAIN
+};
+
 // Ten moments before the last.
 const LATE: u32 = 4294967285;
 
 // Three requests without a page are at most 45 bytes, their answers 15: 125 lists with 46 cuts, or 16 areas.
 pub(crate) static FAMILIES: [Family; 31] = [
-    Family { mode: Mode::Alone, letters: 18, length: 1, lists: 18, ..PLAIN },
-    Family { mode: Mode::Alone, letters: 18, length: 2, lists: 324, ..PLAIN },
-    Family { mode: Mode::Alone, letters: 18, length: 3, lists: 5832, ..PLAIN },
-    Family { name: Some("18 letters, length 1 to 4, a batch each"), mode: Mode::Alone, letters: 18, length: 4, lists: 104976, ..PLAIN },
-    Family { mode: Mode::AtOnce, letters: 18, length: 1, lists: 18, ..PLAIN },
-    Family { mode: Mode::AtOnce, letters: 18, length: 2, lists: 324, ..PLAIN },
-    Family { mode: Mode::AtOnce, letters: 18, length: 3, lists: 5832, ..PLAIN },
-    Family { name: Some("18 letters, length 1 to 4, one batch"), mode: Mode::AtOnce, letters: 18, length: 4, lists: 104976, ..PLAIN },
-    Family { name: Some("10 letters, length 5, a batch each"), mode: Mode::Alone, letters: 10, length: 5, lists: 100000, ..PLAIN },
-    Family { name: Some("10 letters, length 5, one batch"), mode: Mode::AtOnce, letters: 10, length: 5, lists: 100000, ..PLAIN },
-    Family { name: Some("7 letters, length 6, one batch"), mode: Mode::AtOnce, letters: 7, length: 6, lists: 117649, store: LARGER, ..PLAIN },
-    Family { name: Some("5 letters, length 3, one batch, every cut"), mode: Mode::Cut, letters: 5, length: 3, lists: 98750, first: 18, ..PLAIN },
-    Family { name: Some("5 letters, length 3, one batch, every answer area"), mode: Mode::Space, letters: 5, length: 3, lists: 99500, first: 18, ..PLAIN },
-    Family { name: Some("drawn, 1 branch row"), mode: Mode::Drawn, letters: 1, length: 40, lists: 500, store: SMALLEST, ..PLAIN },
-    Family { name: Some("drawn, 3 branch rows"), mode: Mode::Drawn, letters: 1, length: 40, lists: 1500, ..PLAIN },
-    Family { name: Some("drawn, 6 branch rows"), mode: Mode::Drawn, letters: 1, length: 40, lists: 1500, store: LARGER, ..PLAIN },
-    Family { name: Some("drawn, 16 branch rows"), mode: Mode::Drawn, letters: 1, length: 40, lists: 1000, store: LARGEST, ..PLAIN },
-    Family { name: Some("drawn, up to the last moment"), mode: Mode::Drawn, letters: 1, length: 10, lists: 1000, store: LARGER, base: LATE, ..PLAIN },
-    Family { name: Some("18 letters, length 2, each number of the store changed, records swapped"), mode: Mode::Alone, letters: 18, length: 2, lists: 324, changes: true, ..PLAIN },
-    Family { name: Some("drawn, 16 branch rows, each number of the store changed, records swapped"), mode: Mode::Drawn, letters: 1, length: 40, lists: 100, store: LARGEST, changes: true, ..PLAIN },
-    Family { name: Some("10 letters with names, length 5, a batch each"), mode: Mode::Alone, letters: 10, length: 5, lists: 100000, first: 23, ..PLAIN },
-    Family { name: Some("10 letters with names, length 5, one batch"), mode: Mode::AtOnce, letters: 10, length: 5, lists: 100000, first: 23, ..PLAIN },
-    Family { name: Some("7 letters with names, length 6, one batch"), mode: Mode::AtOnce, letters: 7, length: 6, lists: 117649, first: 23, ..PLAIN },
-    Family { name: Some("5 letters with names, length 3, one batch, every cut"), mode: Mode::Cut, letters: 5, length: 3, lists: 5750, first: 33, ..PLAIN },
-    Family { name: Some("5 letters with names, length 3, one batch, every answer area"), mode: Mode::Space, letters: 5, length: 3, lists: 2000, first: 33, ..PLAIN },
-    Family { name: Some("drawn, 4 names, 3 branch rows"), mode: Mode::Drawn, letters: 1, length: 40, lists: 1000, called: 4, ..PLAIN },
-    Family { name: Some("drawn, 128 names, 16 branch rows"), mode: Mode::Drawn, letters: 1, length: 40, lists: 1000, store: LARGEST, called: 128, ..PLAIN },
-    Family { name: Some("drawn, 4 names, up to the last moment"), mode: Mode::Drawn, letters: 1, length: 10, lists: 1000, store: LARGER, called: 4, base: LATE, ..PLAIN },
-    Family { name: Some("7 letters with names, length 3, each number of the store changed, records swapped"), mode: Mode::Alone, letters: 7, length: 3, lists: 343, first: 23, changes: true, ..PLAIN },
-    Family { name: Some("drawn, 128 names, 16 branch rows, each number of the store changed, records swapped"), mode: Mode::Drawn, letters: 1, length: 40, lists: 50, store: LARGEST, called: 128, changes: true, ..PLAIN },
-    Family { name: Some("drawn, set back into the last moments, 4 names, 16 branch rows"), mode: Mode::SetBack, letters: 1, length: 120, lists: 400, store: LARGEST, ..PLAIN },
+    PLAIN,
+    Family {
+        length: 2,
+        lists: 324,
+        ..PLAIN
+    },
+    Family {
+        length: 3,
+        lists: 5832,
+        ..PLAIN
+    },
+    Family {
+        name: Some("18 letters, length 1 to 4, a batch each"),
+        length: 4,
+        lists: 104976,
+        ..PLAIN
+    },
+    Family {
+        mode: Mode::AtOnce,
+        ..PLAIN
+    },
+    Family {
+        mode: Mode::AtOnce,
+        length: 2,
+        lists: 324,
+        ..PLAIN
+    },
+    Family {
+        mode: Mode::AtOnce,
+        length: 3,
+        lists: 5832,
+        ..PLAIN
+    },
+    Family {
+        name: Some("18 letters, length 1 to 4, one batch"),
+        mode: Mode::AtOnce,
+        length: 4,
+        lists: 104976,
+        ..PLAIN
+    },
+    Family {
+        name: Some("10 letters, length 5, a batch each"),
+        letters: 10,
+        length: 5,
+        lists: 100000,
+        ..PLAIN
+    },
+    Family {
+        name: Some("10 letters, length 5, one batch"),
+        mode: Mode::AtOnce,
+        letters: 10,
+        length: 5,
+        lists: 100000,
+        ..PLAIN
+    },
+    Family {
+        name: Some("7 letters, length 6, one batch"),
+        mode: Mode::AtOnce,
+        letters: 7,
+        length: 6,
+        lists: 117649,
+        store: LARGER,
+        ..PLAIN
+    },
+    Family {
+        name: Some("5 letters, length 3, one batch, every cut"),
+        mode: Mode::Cut,
+        letters: 5,
+        length: 3,
+        lists: 98750,
+        first: 18,
+        ..PLAIN
+    },
+    Family {
+        name: Some("5 letters, length 3, one batch, every answer area"),
+        mode: Mode::Space,
+        letters: 5,
+        length: 3,
+        lists: 99500,
+        first: 18,
+        ..PLAIN
+    },
+    Family {
+        name: Some("drawn, 1 branch row"),
+        lists: 500,
+        store: SMALLEST,
+        ..DRAWN
+    },
+    Family {
+        name: Some("drawn, 3 branch rows"),
+        lists: 1500,
+        ..DRAWN
+    },
+    Family {
+        name: Some("drawn, 6 branch rows"),
+        lists: 1500,
+        store: LARGER,
+        ..DRAWN
+    },
+    Family {
+        name: Some("drawn, 16 branch rows"),
+        store: LARGEST,
+        ..DRAWN
+    },
+    Family {
+        name: Some("drawn, up to the last moment"),
+        length: 10,
+        store: LARGER,
+        base: LATE,
+        ..DRAWN
+    },
+    Family {
+        name: Some("18 letters, length 2, each number of the store changed, records swapped"),
+        length: 2,
+        lists: 324,
+        changes: true,
+        ..PLAIN
+    },
+    Family {
+        name: Some("drawn, 16 branch rows, each number of the store changed, records swapped"),
+        lists: 100,
+        store: LARGEST,
+        changes: true,
+        ..DRAWN
+    },
+    Family {
+        name: Some("10 letters with names, length 5, a batch each"),
+        letters: 10,
+        length: 5,
+        lists: 100000,
+        first: 23,
+        ..PLAIN
+    },
+    Family {
+        name: Some("10 letters with names, length 5, one batch"),
+        mode: Mode::AtOnce,
+        letters: 10,
+        length: 5,
+        lists: 100000,
+        first: 23,
+        ..PLAIN
+    },
+    Family {
+        name: Some("7 letters with names, length 6, one batch"),
+        mode: Mode::AtOnce,
+        letters: 7,
+        length: 6,
+        lists: 117649,
+        first: 23,
+        ..PLAIN
+    },
+    Family {
+        name: Some("5 letters with names, length 3, one batch, every cut"),
+        mode: Mode::Cut,
+        letters: 5,
+        length: 3,
+        lists: 5750,
+        first: 33,
+        ..PLAIN
+    },
+    Family {
+        name: Some("5 letters with names, length 3, one batch, every answer area"),
+        mode: Mode::Space,
+        letters: 5,
+        length: 3,
+        lists: 2000,
+        first: 33,
+        ..PLAIN
+    },
+    Family {
+        name: Some("drawn, 4 names, 3 branch rows"),
+        called: 4,
+        ..DRAWN
+    },
+    Family {
+        name: Some("drawn, 128 names, 16 branch rows"),
+        store: LARGEST,
+        called: 128,
+        ..DRAWN
+    },
+    Family {
+        name: Some("drawn, 4 names, up to the last moment"),
+        length: 10,
+        store: LARGER,
+        called: 4,
+        base: LATE,
+        ..DRAWN
+    },
+    Family {
+        name: Some(
+            "7 letters with names, length 3, each number of the store changed, records swapped",
+        ),
+        letters: 7,
+        length: 3,
+        lists: 343,
+        first: 23,
+        changes: true,
+        ..PLAIN
+    },
+    Family {
+        name: Some(
+            "drawn, 128 names, 16 branch rows, each number of the store changed, records swapped",
+        ),
+        lists: 50,
+        store: LARGEST,
+        called: 128,
+        changes: true,
+        ..DRAWN
+    },
+    Family {
+        name: Some("drawn, set back into the last moments, 4 names, 16 branch rows"),
+        mode: Mode::SetBack,
+        letters: 1,
+        length: 120,
+        lists: 400,
+        store: LARGEST,
+        ..PLAIN
+    },
 ];
 
 // The families of the faults: without names, with names, and with the rows that a reclaim leaves.
-pub(crate) static WITHOUT_NAMES: Family = Family { letters: 18, length: 2, lists: 324, ..PLAIN };
+pub(crate) static WITHOUT_NAMES: Family = Family {
+    length: 2,
+    lists: 324,
+    ..PLAIN
+};
 
-pub(crate) static WITH_NAMES: Family = Family { letters: 10, length: 3, lists: 1000, first: 23, ..PLAIN };
+pub(crate) static WITH_NAMES: Family = Family {
+    letters: 10,
+    length: 3,
+    lists: 1000,
+    first: 23,
+    ..PLAIN
+};
 
-pub(crate) static SETTING_BACK: Family = Family { mode: Mode::SetBack, letters: 1, length: 60, lists: 100, store: LARGEST, ..PLAIN };
+pub(crate) static SETTING_BACK: Family = Family {
+    mode: Mode::SetBack,
+    letters: 1,
+    length: 60,
+    lists: 100,
+    store: LARGEST,
+    ..PLAIN
+};

@@ -5,7 +5,7 @@ mod families;
 mod report;
 mod text;
 
-use families::{FAMILIES, Family, Sizes, SETTING_BACK, WITH_NAMES, WITHOUT_NAMES};
+use families::{FAMILIES, Family, SETTING_BACK, Sizes, WITH_NAMES, WITHOUT_NAMES};
 use report::{report, say_all, say_fault, say_weekly};
 use text::{FAULTS, print, print_number};
 use trial_turns::family;

@@ -66,7 +66,10 @@ fn say_told(w: &Numbers) {
     let counts = [
         ("a place was taken that is not the largest free one", TOLD),
         (", not the one behind the last in use", TOLD + 1),
-        (", not the first that was free when the batch began", TOLD + 2),
+        (
+            ", not the first that was free when the batch began",
+            TOLD + 2,
+        ),
         (", below the one that the batch took last", TOLD + 3),
     ];
     say_counts(w, &counts);
@@ -140,7 +143,10 @@ fn say_orders(w: &Numbers) {
         (", another", ORDERS_TAKEN + 5),
         ("; 2 refused the first row's work order", ORDER_REFUSED),
         (", one above 65535", ORDER_REFUSED + 1),
-        ("; one above 65535 past the count was not refused", ORDER_PAST),
+        (
+            "; one above 65535 past the count was not refused",
+            ORDER_PAST,
+        ),
     ];
     say_counts(w, &counts);
 }
