@@ -14,6 +14,7 @@ use trial_words::layout::{
 use trial_words::words::{get, number_at, plus, put, put_four, put_two};
 use work_orders::Listed;
 
+// The store's head.
 fn head(w: &Numbers) -> Head {
     Head {
         size: get(w, 0),
@@ -25,11 +26,13 @@ fn head(w: &Numbers) -> Head {
     }
 }
 
+// A head is noted as the store's.
 fn note_head(w: &mut Numbers, h: Head) {
     put_four(w, HEAD, h.size, h.branches, h.records, h.now);
     put_two(w, HEAD_FLOOR, h.floor, h.names);
 }
 
+// What a batch reported is noted.
 fn note(w: &mut Numbers, r: Batched) {
     let d = r.done;
     note_head(w, d.head);
@@ -44,6 +47,7 @@ fn note(w: &mut Numbers, r: Batched) {
     );
 }
 
+// The answer area before a call.
 fn blank_area() -> [u8; 4096] {
     [165; 4096]
 }
@@ -132,6 +136,7 @@ fn read_all(h: Head, t: &Lent, live: &LentLive, n: u32, area: &mut [u8]) {
     }
 }
 
+// A copying step on what is lent.
 fn step_on(h: Head, t: &Lent, live: LentLive, budget: u32) -> Copied {
     let LentLive { disk, marks } = live;
     copying::copy_step(

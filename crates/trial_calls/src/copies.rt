@@ -16,6 +16,7 @@ pub(crate) fn first<T>(s: &[T], n: u32) -> &[T]
     &s[..n]
 }
 
+// The same, to be written.
 pub(crate) fn first_mut<T>(s: &mut [T], n: u32) -> &mut [T]
     ensures { result.now ≡ take n s.old }
 {
@@ -31,6 +32,7 @@ pub(crate) fn behind<T>(s: &[T], at: u32) -> &[T]
     &s[at..]
 }
 
+// As many values as both sides have.
 pub(crate) fn copy<T: Copy>(from: &[T], to: &mut [T])
     ensures { to.new ≡ take (length to.old) from.now ++ drop (length from.now) to.old }
 {
@@ -38,7 +40,7 @@ pub(crate) fn copy<T: Copy>(from: &[T], to: &mut [T])
     to[..n].copy_from_slice(&from[..n]);
 }
 
-// How many values differ.
+// How many values differ, of as many as both sides have. Mostly none does, and that is seen by one comparison.
 pub(crate) fn differing<T: Copy + PartialEq>(s: &[T], t: &[T]) -> u32 {
     let n = s.len().min(t.len());
     if s[..n] == t[..n] {
@@ -88,6 +90,7 @@ pub(crate) fn note_read(page: &[u8], refusal: u32, area: &mut [u8]) {
     );
 }
 
+// A byte goes to its index, where there is one.
 fn put_in(area: &mut [u8], i: usize, n: u32)
     ensures { length area.new ≡ length area.old }
 {

@@ -36,6 +36,7 @@ impl<const B: usize, const R: usize, const P: usize, const N: usize, const S: us
     N,
     S,
 > {
+    // All zeros.
     pub fn blank() -> Self
         ensures { result ≡ record { branches = replicate B 0; records = replicate R 0; places = replicate P 0; names = replicate N 0; slab = replicate S 0 } }
     {
@@ -48,6 +49,7 @@ impl<const B: usize, const R: usize, const P: usize, const N: usize, const S: us
         }
     }
 
+    // Those parts, of the lengths that the table of numbers says.
     pub fn lent<'a>(&'a mut self, w: &Numbers) -> Lent<'a>
         ensures branches { result.branches.now ≡ take (slice_index w.now 10) self.old.branches }
         ensures records { result.records.now ≡ take (slice_index w.now 11) self.old.records }
@@ -69,6 +71,7 @@ impl<const B: usize, const R: usize, const P: usize, const N: usize, const S: us
 pub(crate) type Copies = Tables<84, 64, 64, 99, 4352>;
 
 impl Copies {
+    // As they stand in the tables of numbers and bytes.
     pub(crate) fn of(w: &Numbers, b: &Bytes) -> Self {
         Tables {
             branches: area(w, BRANCH_TABLE, 0),
@@ -88,6 +91,7 @@ impl Copies {
         put_four(w, TOUCHED, branches, records, places, names);
     }
 
+    // The slab goes back to where it stands. Notes how many of its bytes differ from what stands there.
     pub(crate) fn save_slab(&self, w: &mut Numbers, b: &mut Bytes) {
         let touched = save(b, SLAB, &self.slab);
         put(w, TOUCHED + 4, touched);
@@ -119,6 +123,7 @@ impl<const D: usize> Live<D> {
         }
     }
 
+    // Those parts, of the lengths that the table of numbers says.
     pub(crate) fn lent<'a>(&'a mut self, w: &Numbers) -> LentLive<'a>
         ensures disk { result.disk.now ≡ take (slice_index w.now 480) self.old.disk }
         ensures marks { result.marks.now ≡ take (slice_index w.now 481) self.old.marks }
@@ -132,6 +137,7 @@ impl<const D: usize> Live<D> {
 }
 
 impl Live<1280> {
+    // As they stand in the tables of numbers and bytes.
     pub(crate) fn of(w: &Numbers, b: &Bytes) -> Self {
         Live {
             disk: area(b, DISK, 0),
@@ -150,6 +156,7 @@ impl Live<1280> {
     }
 }
 
+// The marks as they stand in the table of numbers.
 fn marks_of(w: &Numbers) -> [u8; 8] {
     let mut marks = [0; 8];
     for (k, mark) in marks.iter_mut().enumerate() {

@@ -1,5 +1,6 @@
 // Changes of a store before a batch: of one number of the head, of the lengths lent, of a table, or a mark; or two records in each other's
 // row. With every fifth change a mark is wrong besides, which is to be refused only where nothing else is.
+// Kept: the changes are numbers, as the table of numbers holds them (CHANGE) and the run counts through them.
 ghost use Rattle.std.specs.Prelude.{◌≡◌, get_or};
 
 use crate::faults::swap_rows;

@@ -1,8 +1,10 @@
 // Faults put into what the store gave, so that the comparison is seen to find them: one to a list, and taken out after it.
 // A number or a byte is not what the store gave, two records or two names stand in each other's row, a page stands in another free place,
 // or the branch rows, the marks of the live disk or the lists of work orders are those of another rule.
-// Kept: the faults are numbered from 1, as the table of numbers holds them (FAULT) and the program `trials` names them; 114 names in place of
-// the numbers would be no plainer, since most arms take a run of them.
+// Kept: the faults are numbers from 1, as the table of numbers holds them (FAULT) and the program `trials` lists their names; an enum of 114
+// is no plainer, since most arms take a run of them and count from its first.
+// Kept: the two tables are two parameters, w and b: the clauses of the public functions speak of `w.new`, and the comparisons read the one
+// while they write the other.
 ghost use Rattle.std.specs.Prelude.{◌≡◌, ◌+◌, ◌%◌, ◌^◌, MatchOption, Some, get_or, slice_index};
 ghost use Rattle.trial_faults.specs.declared.spots.Spot.TheVariants.{Byte};
 
@@ -38,6 +40,7 @@ fn amount(w: &Numbers, put_in: bool) -> u32 {
     if put_in { step } else { minus(0, step) }
 }
 
+// Where the fault stands in what the turn gave.
 fn spot(w: &Numbers, b: &Bytes, fault: u32) -> Option<Spot> {
     match Turn::next(w) {
         Turn::Fresh => in_fresh(fault),
@@ -58,6 +61,7 @@ fn in_answers(i: u32) -> Option<Spot>
     Some(Spot::Byte(plus(ANSWERS, i)))
 }
 
+// In what a batch gave.
 fn in_batch(w: &Numbers, b: &Bytes, fault: u32) -> Option<Spot> {
     match fault {
         1..=5 => in_answers(fault - 1),
@@ -95,6 +99,7 @@ fn in_names(fault: u32, names: u32) -> Option<Spot> {
     }
 }
 
+// The last record's numbers, its page and its place row; the order of the first two.
 fn in_record(w: &Numbers, fault: u32, records: u32) -> Option<Spot> {
     let at = record_row(records.checked_sub(1)?);
     let place = get(w, plus(at, 2)) % 16;
@@ -120,6 +125,7 @@ fn in_place(w: &Numbers, records: u32) -> Option<Spot> {
     })
 }
 
+// The page that the first answer has, and its date.
 fn in_page(b: &Bytes, fault: u32) -> Option<Spot> {
     if byte(b, ANSWERS) != 2 {
         return None;
@@ -131,6 +137,7 @@ fn in_page(b: &Bytes, fault: u32) -> Option<Spot> {
     }
 }
 
+// In what a batch on a changed store gave, where a stop is due.
 fn in_refused(fault: u32, due: u32) -> Option<Spot> {
     match fault {
         23 => Some(Spot::Number(STOP)),
@@ -142,6 +149,7 @@ fn in_refused(fault: u32, due: u32) -> Option<Spot> {
     }
 }
 
+// In a fresh store.
 fn in_fresh(fault: u32) -> Option<Spot> {
     match fault {
         30 => Some(Spot::Number(STOP)),
@@ -167,6 +175,7 @@ fn in_kept(turn: Turn, fault: u32) -> Option<Spot> {
     }
 }
 
+// The tables and the live disk of a changed store.
 fn in_kept_store(fault: u32) -> Option<Spot> {
     match fault {
         25 => Some(Spot::Number(BRANCH_TABLE)),
@@ -178,6 +187,7 @@ fn in_kept_store(fault: u32) -> Option<Spot> {
     }
 }
 
+// Two numbers in each other's place.
 fn swap(w: &mut Numbers, i: u32, j: u32) {
     let a = get(w, i);
     let b = get(w, j);
@@ -192,6 +202,7 @@ pub(crate) fn swap_rows(w: &mut Numbers, row: u32, n: u32) {
     }
 }
 
+// Two bytes in each other's place.
 pub(crate) fn swap_byte(b: &mut Bytes, i: u32, j: u32) {
     let x = byte(b, i);
     let y = byte(b, j);
@@ -214,6 +225,7 @@ fn move_page(w: &mut Numbers, b: &mut Bytes, from: u32, to: u32) {
     swap_pages(b, SLAB + from % 16 * 256, SLAB + to % 16 * 256);
 }
 
+// A byte is so much more.
 pub(crate) fn add_byte(b: &mut Bytes, i: u32, by: u32) {
     let v = byte(b, i);
     put_byte(b, i, plus(v, by));

@@ -30,12 +30,14 @@ pub fn note_before(w: &mut Numbers) -> u32
     number_at(w, MARKS_BEFORE)
 }
 
+// The mark of a page.
 fn mark_of(w: &Numbers, a: u32) -> u32
     ensures { a < 8 → result ≡ slice_index w.now (500 + a) }
 {
     get(w, plus(MARK_TABLE, a))
 }
 
+// The same, as a spot.
 fn in_mark(a: u32) -> Option<Spot>
     ensures { result ≡ Some (Number ((500 + a) % 2 ^ 32)) }
 {
@@ -61,6 +63,7 @@ pub(crate) fn in_batch(w: &Numbers, b: &Bytes, fault: u32, r: Request) -> Option
     }
 }
 
+// The mark of the page written, and its last byte.
 fn in_write(fault: u32, a: u32) -> Option<Spot> {
     match fault {
         63 | 64 => in_mark(a),
@@ -69,6 +72,7 @@ fn in_write(fault: u32, a: u32) -> Option<Spot> {
     }
 }
 
+// The first mark, that of a page blank and current, and the first byte of the disk.
 fn in_revert(w: &Numbers, fault: u32) -> Option<Spot> {
     match fault {
         60 => in_mark(0),
@@ -147,6 +151,7 @@ fn first_turned(w: &Numbers, fault: u32) -> Option<u32> {
     (0..get(w, SIZE)).find(|a| turned(w, fault, *a))
 }
 
+// Whether the step turned a page that the fault can be in.
 fn turned(w: &Numbers, fault: u32, a: u32) -> bool {
     let before = get(w, plus(MARKS_BEFORE, a));
     let after = mark_of(w, a);

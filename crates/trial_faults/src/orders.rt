@@ -1,4 +1,6 @@
 // Faults in the lists of work orders: what another rule would give. What the lists gave is not read again, and so the fault is not taken out.
+// Kept: the loops over bytes count an index, since `byte` and `put_byte` are defined at any index; over a slice they would first have to cut
+// the list out of the table, and be no plainer.
 use crate::faults::{add_byte, swap_byte};
 use crate::rows::order_with_cut;
 use crate::spots::Spot;
@@ -18,6 +20,7 @@ pub(crate) fn spot(w: &Numbers, b: &Bytes, fault: u32, sound: bool) -> Option<Sp
         .map(|k| Spot::List(k % 48))
 }
 
+// Whether the fault can be in the k-th list.
 fn suits(w: &Numbers, b: &Bytes, fault: u32, k: u32, sound: bool) -> bool {
     let refusal = byte(b, plus(list_at(k), 72));
     match fault {
@@ -57,11 +60,12 @@ fn in_given(w: &Numbers, b: &Bytes, fault: u32, k: u32) -> bool {
     }
 }
 
-// The moment of a list asked for, and the bytes lent for it.
+// The moment of a list asked for.
 fn moment_of(w: &Numbers, k: u32) -> u32 {
     get(w, ASKS + k % 48 * 2)
 }
 
+// The bytes lent for it.
 fn lent_for(w: &Numbers, k: u32) -> u32 {
     get(w, ASKS + k % 48 * 2 + 1)
 }
@@ -75,12 +79,14 @@ fn order_at_cut(w: &Numbers, k: u32) -> u32 {
     order_with_cut(w, branch)
 }
 
+// The fault is put into the k-th list.
 pub(crate) fn shift(w: &Numbers, b: &mut Bytes, k: u32, put_in: bool) {
     if put_in {
         change(w, b, get(w, FAULT), k);
     }
 }
 
+// The k-th list as the fault has it.
 fn change(w: &Numbers, b: &mut Bytes, fault: u32, k: u32) {
     let at = list_at(k);
     let n = count_of(b, k);
@@ -102,6 +108,7 @@ fn change(w: &Numbers, b: &mut Bytes, fault: u32, k: u32) {
     }
 }
 
+// A work order goes to its two bytes.
 fn put_order(b: &mut Bytes, at: u32, order: u32) {
     put_byte(b, at, order / 256);
     put_byte(b, plus(at, 1), order);
@@ -114,6 +121,7 @@ fn turn(b: &mut Bytes, at: u32, n: u32) {
     }
 }
 
+// Two work orders of a list in each other's place.
 fn swap_orders(b: &mut Bytes, at: u32, i: u32, j: u32) {
     let first = plus(at, i % 32 * 2);
     let other = plus(at, j % 32 * 2);
@@ -121,6 +129,7 @@ fn swap_orders(b: &mut Bytes, at: u32, i: u32, j: u32) {
     swap_byte(b, plus(first, 1), plus(other, 1));
 }
 
+// So many bytes are as they were before the turn.
 fn blank(b: &mut Bytes, at: u32, n: u32) {
     for i in 0..n {
         put_byte(b, plus(at, i), BLANK);
@@ -140,6 +149,7 @@ fn leave_out_first(b: &mut Bytes, at: u32, n: u32) {
     leave_out_last(b, at, n);
 }
 
+// So many bytes from one index on become those from another on.
 fn copy(b: &mut Bytes, from: u32, to: u32, n: u32) {
     for i in 0..n {
         let v = byte(b, plus(from, i));

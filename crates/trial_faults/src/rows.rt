@@ -21,7 +21,7 @@ pub fn note_before(w: &mut Numbers) -> u32
     number_at(w, COUNT_BEFORE)
 }
 
-// Why a row stays: it is the first, it ends at the floor or above it, it holds a named moment or a record.
+// The reasons for which a row stays: it is the first, it ends at the floor or above it, it holds a named moment or a record.
 #[derive(Clone, Copy, PartialEq, Eq)]
 struct Reasons {
     first: bool,
@@ -31,6 +31,7 @@ struct Reasons {
     recorded: bool,
 }
 
+// For none of these.
 const NO_REASON: Reasons = Reasons {
     first: false,
     at_floor: false,
@@ -39,6 +40,7 @@ const NO_REASON: Reasons = Reasons {
     recorded: false,
 };
 
+// Why a row stays.
 fn why_kept(w: &Numbers, row: u32) -> Reasons {
     let end = get(w, plus(row, 1));
     let floor = get(w, HEAD_FLOOR);
@@ -116,10 +118,12 @@ fn order_taken_over(w: &Numbers, n: u32) -> Option<Rows> {
         .map(Rows::Reordered)
 }
 
+// Where the cut of the k-th row stands.
 fn cut_at(k: u32) -> u32 {
     plus(row_at(BRANCH_TABLE, k), 2)
 }
 
+// Where its work order stands.
 fn order_at(k: u32) -> u32 {
     plus(row_at(BRANCH_TABLE, k), 3)
 }
@@ -189,6 +193,7 @@ pub(crate) fn shift(w: &mut Numbers, rows: Rows, put_in: bool) {
     }
 }
 
+// The branch rows as the fault has them.
 fn change(w: &mut Numbers, rows: Rows) {
     let fault = get(w, FAULT);
     match rows {

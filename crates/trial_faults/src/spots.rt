@@ -55,6 +55,7 @@ const READS: u32 = 133376;
 
 const LISTS: u32 = 134144;
 
+// Two numbers below 16 as one.
 fn pair(i: u32, j: u32) -> u32
     ensures { result ≡ i % 16 * 16 + j % 16 }
 {

@@ -25,6 +25,7 @@ pub fn family(w: &mut Numbers) -> u32
     number_at(w, DIFFER)
 }
 
+// Kept: a count of turns in place of a `loop`, since each loop has to be proved to end.
 fn all_turns(w: &mut Numbers, b: &mut Bytes) {
     for _ in 0..u32::MAX {
         let turn = Turn::next(w);
@@ -35,6 +36,7 @@ fn all_turns(w: &mut Numbers, b: &mut Bytes) {
     }
 }
 
+// One function for each turn.
 fn take_turn(w: &mut Numbers, b: &mut Bytes, turn: Turn) {
     match turn {
         Turn::Fresh => begin(w, b),
@@ -49,6 +51,7 @@ fn take_turn(w: &mut Numbers, b: &mut Bytes, turn: Turn) {
     }
 }
 
+// What the next turn does.
 fn turn_to(w: &mut Numbers, turn: Turn) {
     put(w, TURN, u32::from(turn));
 }
@@ -123,6 +126,7 @@ fn step(w: &mut Numbers, b: &mut Bytes) {
     calls::look(w, b);
 }
 
+// They are made on the store after a batch.
 fn look(w: &mut Numbers, b: &mut Bytes) {
     step(w, b);
     faults::put_in(w, b);
@@ -131,6 +135,7 @@ fn look(w: &mut Numbers, b: &mut Bytes) {
     next_batch(w, plus(get(w, BATCH), 1));
 }
 
+// On a changed store they are refused.
 fn look_refused(w: &mut Numbers, b: &mut Bytes) {
     step(w, b);
     faults::put_in(w, b);
@@ -149,6 +154,7 @@ fn list(w: &mut Numbers, b: &mut Bytes) {
     next_lists(w, plus(get(w, SNAPSHOT), 16));
 }
 
+// The lists on a changed store; then the next change is tried.
 fn list_changed(w: &mut Numbers, b: &mut Bytes) {
     lists::list_changed(w);
     calls::list(w, b);

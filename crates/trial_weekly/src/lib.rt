@@ -51,6 +51,7 @@ pub fn run(w: &mut Numbers, behind: u32) -> u32
     number_at(w, LARGEST)
 }
 
+// The weeks, one after another.
 fn all_weeks(w: &mut Numbers, store: &mut Store) {
     let mut b: Bytes = [0; 12288];
     for k in 0..WEEKS {
@@ -58,6 +59,7 @@ fn all_weeks(w: &mut Numbers, store: &mut Store) {
     }
 }
 
+// A week's requests, and every four weeks a reclaim.
 fn week(w: &mut Numbers, b: &mut Bytes, store: &mut Store, k: u32) {
     list_week(w, k);
     hand_in(w, b, store);
@@ -100,6 +102,7 @@ fn judge_list(w: &mut Numbers, store: &mut Store, moment: u32) {
     raise(w, LONGEST, rows);
 }
 
+// The moment that the k-th branch starts at.
 fn start_of(store: &Store, k: u32) -> u32 {
     let i = (k % 4096 * 4) as usize;
     store.branches[i]
@@ -162,6 +165,7 @@ fn list_week(w: &mut Numbers, k: u32) {
     list(w, plus(n, 3));
 }
 
+// The next batch has so many requests, and room for an answer to each.
 fn list(w: &mut Numbers, n: u32) {
     put(w, COUNT, n);
     put(w, AREA, n % 16 * PAGE_ANSWER);
@@ -193,6 +197,7 @@ fn raise(w: &mut Numbers, i: u32, n: u32) {
     put(w, i, so_far.max(n));
 }
 
+// The refusals of n answers are counted.
 fn count_answers(w: &mut Numbers, b: &Bytes, n: u32) {
     put(w, SENT, 0);
     for _ in 0..n {
@@ -220,6 +225,7 @@ fn written(a: u32, week: u32) -> Option<u32> {
     (0..plus(week, 1)).rev().find(|k| k % 8 == a && writes(*k))
 }
 
+// A page read, which a week wrote last, or none.
 fn judge_page(w: &mut Numbers, b: &Bytes, last: Option<u32>, moment: u32) {
     let at = plus(ANSWERS, get(w, SENT));
     let (date, page, sent) = match last {

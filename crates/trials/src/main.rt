@@ -7,7 +7,7 @@ mod text;
 
 use families::{FAMILIES, Family, SETTING_BACK, Sizes, WITH_NAMES, WITHOUT_NAMES};
 use report::{report, say_all, say_fault, say_weekly};
-use text::{FAULTS, print, print_number};
+use text::{FAULT_NAMES, print, print_number};
 use trial_turns::family;
 use trial_weekly::{BRANCH_ROWS, ways};
 use trial_words::layout::{
@@ -16,10 +16,12 @@ use trial_words::layout::{
 };
 use trial_words::words::{put, put_four, put_two};
 
+// A table of numbers, all zero.
 fn numbers() -> Numbers {
     [0; 5632]
 }
 
+// The sizes and the lengths lent.
 fn set_sizes(w: &mut Numbers, s: Sizes) {
     put_four(w, SIZE, s.pages, s.branches, s.records, s.places);
     put_four(
@@ -34,6 +36,7 @@ fn set_sizes(w: &mut Numbers, s: Sizes) {
     put_two(w, DISK_LENGTH, s.pages % 65536 * 256, s.pages);
 }
 
+// What the lists are made by.
 fn set_family(w: &mut Numbers, f: &Family) {
     put_four(w, MODE, f.mode as u32, f.letters, f.length, f.lists);
     put(w, FIRST, f.first);
@@ -43,6 +46,7 @@ fn set_family(w: &mut Numbers, f: &Family) {
     set_sizes(w, f.store);
 }
 
+// All lists of each family, and a line for each name.
 fn run_families(w: &mut Numbers) {
     for f in &FAMILIES {
         set_family(w, f);
@@ -70,7 +74,7 @@ fn fault_family(fault: u32) -> &'static Family {
 
 // All lists of two letters of 18, or of three of the 10 with names, or of an operator who sets back, with a fault in what the store gave.
 fn all_faults(w: &mut Numbers) {
-    for (fault, name) in (1..).zip(FAULTS) {
+    for (fault, name) in (1..).zip(FAULT_NAMES) {
         set_family(w, fault_family(fault));
         put(w, FAULT, fault);
         put(w, CHANGES, u32::from(is_in_refused(fault)));

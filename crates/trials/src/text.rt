@@ -25,7 +25,7 @@ pub(crate) fn say_counts(w: &Numbers, counts: &[(&str, u32)]) {
 }
 
 // The names of the faults, from the first on.
-pub(crate) static FAULTS: [&str; 114] = [
+pub(crate) static FAULT_NAMES: [&str; 114] = [
     "an answer's first byte",
     "the number's first byte",
     "the number's second byte",
