@@ -36,10 +36,8 @@ pub fn load_rows(rows: &[Branch], table: &mut [u32])
     requires { BranchesIn (length rows.now) table.old }
     ensures { table.new ≡ flat branch_fields rows.now ++ drop (length rows.now * branch_width) table.old }
 {
-    let mut i: usize = 0;
-    while i < rows.len() {
+    for i in 0..rows.len() {
         rows::set_branch(table, i, branch_row(rows, i));
-        i += 1;
     }
 }
 
@@ -48,10 +46,8 @@ pub fn store_rows(rows: &mut [Branch], table: &[u32])
     requires { BranchesIn (length rows.old) table.now }
     ensures { rows.new ≡ take (length rows.old) (branch_rows_of table.now) }
 {
-    let mut i: usize = 0;
-    while i < rows.len() {
+    for i in 0..rows.len() {
         set_branch_row(rows, i, rows::branch_at(table, i));
-        i += 1;
     }
 }
 
@@ -74,6 +70,7 @@ pub struct Ended {
 }
 
 // The core's batch, on the first `count` rows of a flat table.
+#[tactic(auto, using(crate::proofs::Lending::disk_front, crate::proofs::Lending::read_front))]
 pub fn batch_rows(
     head: Head,
     count: usize,
@@ -138,6 +135,7 @@ pub fn fresh_rows(
 }
 
 // A batch on what is lent, whatever it holds; the head is the caller's, and is brought up to date.
+#[tactic(auto, using(crate::proofs::Lending::loaded_front, crate::proofs::Lending::many_batch_leaves, crate::proofs::Lending::many_disk, crate::proofs::Lending::many_read))]
 pub fn run_batch(
     head: &mut Head,
     branches: &mut [Branch],
@@ -184,6 +182,7 @@ pub fn run_batch(
 }
 
 // A fresh store of `size` pages over what is lent, whatever it holds; 0, or the refusal.
+#[tactic(auto, using(crate::proofs::Lending::loaded_front))]
 pub fn make_fresh(
     head: &mut Head,
     size: u32,
@@ -207,6 +206,7 @@ pub fn make_fresh(
 }
 
 // A batch on a fresh store of `size` pages and 16 branch rows. Its own parameters are numbers and slices of numbers, so that whoever calls it is covered: head and rows lie in locals, which are lent.
+#[tactic(auto, using(crate::proofs::Starting::read_made))]
 pub fn fresh_batch(
     size: u32,
     rt: &mut [u32],

@@ -1,7 +1,7 @@
 -- What the core's batch leaves of the rows' numbers, said of the rows.
-use Rattle.std.proofs.Common.{rules, ◌≡◌, ◌∙◌, ◌*◌, ◌++◌, length, drop}
+use Rattle.std.proofs.Common.{rules, ◌≡◌, ◌*◌, ◌++◌, length, drop}
 use Rattle.live.specs.Live.{disk_of}
-use Rattle.lent.proofs.Lending.{rest_stays, batch_back, disk_front, read_front}
+use Rattle.lent.proofs.Lending.{rest_stays, batch_back}
 use Rattle.lent.proofs.batch_rows.Goals as goal
 
 pub returns-clause-table_unchanged : goal.returns-clause-table_unchanged
@@ -12,13 +12,3 @@ returns-clause-table_unchanged c =
       rest_stays s.count s.table.now c.requires s.rt.now s.pt.now s.nt.now s.slab.now u same,
       batch_back s.count s.table.now c.requires s.rt.now s.pt.now s.nt.now s.slab.now u same s.head (disk_of s.disk.now s.marks.now) s.input.now s.answers.now c.batch-batched.ensures.batch_leaves,
     )
-
-pub returns-clause-marks_after : goal.returns-clause-marks_after
-returns-clause-marks_after c =
-    let s = c.args in
-    c.batch-batched.ensures.marks_after ∙ disk_front s.count s.table.now c.requires s.rt.now s.pt.now s.nt.now s.slab.now s.head (disk_of s.disk.now s.marks.now) s.input.now (length s.answers.now)
-
-pub returns-clause-rows_value : goal.returns-clause-rows_value
-returns-clause-rows_value c =
-    let s = c.args in
-    c.batch-batched.ensures.rows_value ∙ read_front s.count s.table.now c.requires s.rt.now s.pt.now s.nt.now s.slab.now s.head

@@ -1,5 +1,5 @@
 use Rattle.lent.specs.Lent.{lent}
-use Rattle.lent.proofs.Lending.{loaded_front, many_fresh_leaves}
+use Rattle.lent.proofs.Lending.{many_fresh_leaves}
 use Rattle.lent.proofs.make_fresh.Goals as goal
 
 -- more rows than a branch table may have
@@ -7,9 +7,3 @@ pub returns-then-branches-gt-MOST_ROWS : goal.returns-then-branches-gt-MOST_ROWS
 returns-then-branches-gt-MOST_ROWS c =
     let s = c.args in
     many_fresh_leaves s.head.now (lent s.branches.now s.rt.now s.pt.now s.nt.now s.slab.now) c.if-branches-gt-MOST_ROWS.true s.size
-
--- the first rows of the flat table are those that are lent
-pub returns : goal.returns
-returns c =
-    let front = loaded_front c.args.branches.now _ c.load_rows.new.table c.load_rows.ensures in
-    rw c.store_rows.ensures (rw front at c.fresh_rows-made.ensures.1)
