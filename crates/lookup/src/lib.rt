@@ -10,6 +10,7 @@ ghost use Rattle.rows.specs.View.{found_of};
 use rows::Found;
 
 // How many of the first n records stand up to (a, t), itself included.
+// Kept: the library's search is of a slice's elements; a row is three numbers of a flat table, as the C interface lends it.
 pub fn up_to(rt: &[u32], n: usize, a: u32, t: u32) -> usize
     requires records_in { RecordsIn n rt.now }
     requires asc { Asc (take n (record_rows_of rt.now)) }
@@ -34,6 +35,7 @@ pub fn up_to(rt: &[u32], n: usize, a: u32, t: u32) -> usize
 }
 
 // The record that the address a has at a moment, of nb branches and nr records: Figure 1.
+// Kept: labelled nested loops, rows outside, records inside, which break out with the record, are the form that document 01 names here.
 pub fn find_record(bt: &[u32], nb: usize, rt: &[u32], nr: usize, a: u32, when: u32) -> Found
     requires branches_in { BranchesIn nb bt.now × RecordsIn nr rt.now }
     requires asc { Asc (take nr (record_rows_of rt.now)) }
