@@ -14,7 +14,10 @@ pub fn copy(out: &mut [u8], src: &[u8])
     requires { length src.now ≤ length out.old }
     ensures { out.new ≡ in_front src.now out.old }
 {
-    out[..src.len()].copy_from_slice(src);
+    // Kept: the library's copy_from_slice calls memmove, which the archive for C would then need from outside.
+    for i in 0..src.len() {
+        out[i] = src[i];
+    }
 }
 
 // The five bytes of an answer without its page go to the front of out.

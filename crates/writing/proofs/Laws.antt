@@ -1,16 +1,16 @@
 -- Laws of the write.
 use mathlib.Core.Path.{◌≡◌, refl, ap, sym, ◌∙◌}
 use mathlib.Core.Logic.{◌⊎◌, inl, inr}
-use mathlib.Core.List.{List, [], ◌∷◌, ◌++◌, map}
+use mathlib.Core.List.{List, [], ◌∷◌, ◌++◌, map, append_assoc}
 use mathlib.Core.Option
 use mathlib.Core.Option.{some, none}
 use mathlib.Core.Bool.{true, false}
-use Prim.Native.Nat.{ℕ, zero, suc, ◌+◌, ◌-◌, ◌≤◌, ◌<◌, suc-le-suc}
+use Prim.Native.Nat.{ℕ, zero, suc, ◌+◌, ◌*◌, ◌-◌, ◌≤◌, ◌<◌, suc-le-suc}
 use native.Mathlib.Nat.{le_of_suc-le-suc, not-suc-le-zero, le_refl}
 use native.Mathlib.Decide.{dec_lt, ℕ_discrete}
 use native.Mathlib.Omega.{arith}
 use lib.ListN.{length, get_or, set, take, drop, length-map, get_or-eq_default}
-use lib.Seq.{get_or-take, length-take-le, get_or-set_same, get_or-set_other}
+use lib.Seq.{get_or-take, length-take-le, get_or-set_same, get_or-set_other, paste, take_all}
 use borrow.Author.Tests.{lt-ltb, le-ltb}
 use Rattle.model.specs.declared.Head.{Head}
 use Rattle.model.specs.declared.Record.{Record}
@@ -161,6 +161,13 @@ module _ (rows : List Record) (n a t c : ℕ) (room : n ≤ length rows) (up : A
       where
         long : length (take n rows) ≡ n
         long = length-take-le n rows room
+
+-- a page put into the slab
+pub page_end : (slab page : List ℕ) (p i : ℕ) → length page ≡ 256 → i ≡ 256 → paste slab (256 * p) page i ≡ with_page slab p page
+unfolding with_page
+page_end slab page p i e z =
+    let t : take 256 page ≡ page = take_all 256 page (omega arith) in
+    rw (z, t) (append_assoc (take (256 * p) slab) page (drop (256 * p + 256) slab))
 
 -- what stands at (a, t) in a table whose first n records are in order, of which c are up to (a, t)
 module _ (rt : List ℕ) (n a t c : ℕ) (counted : RecordsIn n rt × (c ≡ up_to a t (take n (record_rows_of rt)))) (asc : Asc (take n (record_rows_of rt))) where

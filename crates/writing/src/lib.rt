@@ -65,13 +65,15 @@ fn insert_row(rt: &mut [u32], n: usize, at: usize, r: Record)
 }
 
 // A page is put at a place of the slab.
-#[tactic(auto, unfolding(model::specs::Store::with_page))]
 pub fn put_page(slab: &mut [u8], p: usize, page: &[u8])
     requires { (length page.now ≡ 256) × (256 * p + 256 ≤ length slab.old) }
     ensures { slab.new ≡ with_page slab.old p page.now }
 {
+    // Kept: the library's copy_from_slice calls memmove, which the archive for C would then need from outside.
     let base = 256 * p;
-    slab[base..base + 256].copy_from_slice(page);
+    for i in 0..page.len() {
+        slab[base + i] = page[i];
+    }
 }
 
 // The record that stands at (a, t) already, of n records of which c are up to (a, t); where there is none, c is the row for a new one.
