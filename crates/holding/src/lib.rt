@@ -1,7 +1,7 @@
 // Which branch row holds a moment, where the counted rows are chained (check 2 of crate soundness).
 #![tactic(auto)]
 
-ghost use Rattle.std.specs.Prelude.{◌≡◌, true, ◌-◌, ◌≤◌, ◌<◌};
+ghost use Rattle.std.specs.Prelude.{◌≡◌, true, cond, ◌-◌, ◌≤◌, ◌<◌, ltb};
 ghost use Rattle.model.specs.Soundness.{chained};
 ghost use Rattle.model.specs.ByNumber.{branch, newest_of, held, Stairs};
 ghost use Rattle.rows.specs.Rows.{branch_rows_of, BranchesIn};
@@ -16,6 +16,15 @@ pub struct Looked {
     pub row: usize,
 }
 
+// 1 where a is below b, else 0.
+// Kept: by sums, since of a test as a number the compiler makes a jump, which is guessed wrong every other time, and then the check of
+// tables with gaps takes 1.6 times as long. And with 2^33: in the same sums with 2^32 it sees the test.
+fn below(a: u32, b: u32) -> usize
+    ensures { result ≡ cond (ltb a b) 1 0 }
+{
+    ((b as u64 + 8589934591 - a as u64) / 8589934592) as usize
+}
+
 // The first of n branches that ends at t or later, where the last one does. Each turn moves base or leaves it, without a jump that is guessed wrong every other time.
 fn first_ending(bt: &[u32], n: usize, t: u32) -> usize
     requires n_nonzero { (0 < n) × BranchesIn n bt.now × (t ≤ (branch (branch_rows_of bt.now) (n - 1)).end) }
@@ -28,7 +37,7 @@ fn first_ending(bt: &[u32], n: usize, t: u32) -> usize
     while 1 < len {
         let half = len / 2;
         let b = rows::branch_at(bt, base + half - 1);
-        base += half * usize::from(b.end < t);
+        base += half * below(b.end, t);
         len -= half;
     }
     base
