@@ -2,7 +2,7 @@
 ghost use Rattle.std.specs.Prelude.{◌≡◌, length, get_or};
 
 use crate::copies::{area, first, first_mut, note_list, note_read, number, put_back};
-use crate::lent::{Copies, Lent, LentLive, Live};
+use crate::lent::{Copies, Lent, LentLive, Live, Shown};
 use batch::Batched;
 use live::Copied;
 use model::Head;
@@ -53,13 +53,19 @@ fn blank_area() -> [u8; 4096] {
 }
 
 // A batch on what is lent, of the bytes handed in, and what it reported.
-fn batch_on(w: &mut Numbers, t: Lent, live: LentLive, input: &[u8], answers: &mut [u8]) {
+fn batch_on(
+    w: &mut Numbers,
+    t: Lent,
+    slab: &mut [u8],
+    live: LentLive,
+    input: &[u8],
+    answers: &mut [u8],
+) {
     let Lent {
         branches,
         records,
         places,
         names,
-        slab,
     } = t;
     let LentLive { disk, marks } = live;
     let input = first(input, get(w, INPUT));
@@ -87,9 +93,9 @@ pub fn ask(w: &mut Numbers, b: &mut Bytes) -> u32
     let mut tables = Copies::of(w, b);
     let mut live = Live::of(w, b);
     let mut answers = blank_area();
-    let t = tables.lent(w);
+    let (t, slab) = tables.lent(w);
     let l = live.lent(w);
-    batch_on(w, t, l, &input, &mut answers);
+    batch_on(w, t, slab, l, &input, &mut answers);
     faults::put_in_kept(w, b);
     live.save(w, b);
     tables.save(w);
@@ -99,20 +105,20 @@ pub fn ask(w: &mut Numbers, b: &mut Bytes) -> u32
 }
 
 // A batch of the bytes handed in on tables that the caller holds, and on a live disk of eight pages that is not kept. Answers the stop number.
-pub fn ask_over(w: &mut Numbers, b: &mut Bytes, t: Lent) -> u32
+pub fn ask_over(w: &mut Numbers, b: &mut Bytes, t: Lent, slab: &mut [u8]) -> u32
     ensures { result ≡ get_or w.new 6 0 }
 {
     let input: [u8; 2304] = area(b, INPUT_BYTES, 0);
     let mut live = Live::<2048>::blank();
     let mut answers = blank_area();
     let l = live.lent(w);
-    batch_on(w, t, l, &input, &mut answers);
+    batch_on(w, t, slab, l, &input, &mut answers);
     put_back(b, ANSWERS, &answers);
     number_at(w, STOP)
 }
 
 // A live read of an address. Its page, its refusal and whether there is a page go to its place.
-fn read_one(h: Head, t: &Lent, live: &LentLive, a: u32, place: &mut [u8]) {
+fn read_one(h: Head, t: Shown, live: &LentLive, a: u32, place: &mut [u8]) {
     let mut refusal: u32 = 0;
     let page = live_pages::live_read(
         h,
@@ -130,14 +136,14 @@ fn read_one(h: Head, t: &Lent, live: &LentLive, a: u32, place: &mut [u8]) {
 }
 
 // Live reads of the first n addresses, each with its place in an area.
-fn read_all(h: Head, t: &Lent, live: &LentLive, n: u32, area: &mut [u8]) {
+fn read_all(h: Head, t: Shown, live: &LentLive, n: u32, area: &mut [u8]) {
     for (a, place) in (0..n).zip(area.chunks_mut(260)) {
         read_one(h, t, live, a, place);
     }
 }
 
 // A copying step on what is lent.
-fn step_on(h: Head, t: &Lent, live: LentLive, budget: u32) -> Copied {
+fn step_on(h: Head, t: Shown, live: LentLive, budget: u32) -> Copied {
     let LentLive { disk, marks } = live;
     copying::copy_step(
         h, t.branches, t.records, t.places, t.names, t.slab, disk, marks, budget,
@@ -148,13 +154,13 @@ fn step_on(h: Head, t: &Lent, live: LentLive, budget: u32) -> Copied {
 pub fn look(w: &mut Numbers, b: &mut Bytes) -> u32
     ensures { result ≡ get_or w.new 485 0 }
 {
-    let mut tables = Copies::of(w, b);
+    let tables = Copies::of(w, b);
     let mut live = Live::of(w, b);
     let mut area = blank_area();
-    let t = tables.lent(w);
+    let t = tables.shown(w);
     let l = live.lent(w);
-    read_all(head(w), &t, &l, plus(get(w, SIZE), 1), &mut area);
-    let c = step_on(head(w), &t, l, get(w, BUDGET));
+    read_all(head(w), t, &l, plus(get(w, SIZE), 1), &mut area);
+    let c = step_on(head(w), t, l, get(w, BUDGET));
     put_two(w, COPIED, c.refusal, c.count);
     faults::put_in_kept(w, b);
     live.save(w, b);
@@ -163,14 +169,14 @@ pub fn look(w: &mut Numbers, b: &mut Bytes) -> u32
 }
 
 // A list of work orders at a moment.
-fn list_one(h: Head, t: &Lent, moment: u32, list: &mut [u8]) -> Listed {
+fn list_one(h: Head, t: Shown, moment: u32, list: &mut [u8]) -> Listed {
     listing::list_orders(
         h, t.branches, t.records, t.places, t.names, t.slab, moment, list,
     )
 }
 
 // The k-th of the lists asked for, of at most 48 bytes. Its refusal and its count go behind it.
-fn list_next(w: &Numbers, t: &Lent, k: u32, place: &mut [u8]) {
+fn list_next(w: &Numbers, t: Shown, k: u32, place: &mut [u8]) {
     let at = ASKS + k % 48 * 2;
     let list = first_mut(place, get(w, plus(at, 1)) % 49);
     let r = list_one(head(w), t, get(w, at), list);
@@ -178,7 +184,7 @@ fn list_next(w: &Numbers, t: &Lent, k: u32, place: &mut [u8]) {
 }
 
 // The first n of the lists asked for, each with its place in an area.
-fn list_all(w: &Numbers, t: &Lent, n: u32, area: &mut [u8]) {
+fn list_all(w: &Numbers, t: Shown, n: u32, area: &mut [u8]) {
     for (k, place) in (0..n).zip(area.chunks_mut(80)) {
         list_next(w, t, k, place);
     }
@@ -188,19 +194,18 @@ fn list_all(w: &Numbers, t: &Lent, n: u32, area: &mut [u8]) {
 pub fn list(w: &Numbers, b: &mut Bytes) -> u32
     ensures { result ≡ get_or w.now 639 0 }
 {
-    let mut tables = Copies::of(w, b);
+    let tables = Copies::of(w, b);
     let mut area = blank_area();
-    let t = tables.lent(w);
-    list_all(w, &t, get(w, ASKED), &mut area);
+    list_all(w, tables.shown(w), get(w, ASKED), &mut area);
     put_back(b, ANSWERS, &area);
     number_at(w, ASKED)
 }
 
 // A list of work orders at a moment on tables that the caller holds. Answers how many orders it has; 0 where it is refused.
-pub fn list_over(w: &mut Numbers, t: Lent, moment: u32, list: &mut [u8]) -> u32
+pub fn list_over(w: &mut Numbers, t: Shown, moment: u32, list: &mut [u8]) -> u32
     ensures { result ≡ get_or w.new 429 0 }
 {
-    let r = list_one(head(w), &t, moment, list);
+    let r = list_one(head(w), t, moment, list);
     put(
         w,
         LIST_COUNT,
@@ -210,7 +215,7 @@ pub fn list_over(w: &mut Numbers, t: Lent, moment: u32, list: &mut [u8]) -> u32
 }
 
 // A fresh store of the sizes on trial over tables that the caller holds. Its refusal is noted as the stop number. Answers it.
-pub fn make_over(w: &mut Numbers, t: Lent) -> u32
+pub fn make_over(w: &mut Numbers, t: Lent, slab: &[u8]) -> u32
     ensures { result ≡ get_or w.new 6 0 }
 {
     let Lent {
@@ -218,7 +223,6 @@ pub fn make_over(w: &mut Numbers, t: Lent) -> u32
         records,
         places,
         names,
-        slab,
     } = t;
     let size = get(w, SIZE);
     let made = fresh::make(head(w), size, branches, records, places, names, slab);
@@ -232,8 +236,8 @@ pub fn make(w: &mut Numbers, b: &Bytes) -> u32
     ensures { result ≡ get_or w.new 6 0 }
 {
     let mut tables = Copies::of(w, b);
-    let t = tables.lent(w);
-    make_over(w, t);
+    let (t, slab) = tables.lent(w);
+    make_over(w, t, slab);
     tables.save(w);
     number_at(w, STOP)
 }

@@ -1,7 +1,7 @@
 // What is lent to the store.
 ghost use Rattle.std.specs.Prelude.{◌≡◌, length, replicate, slice_index, take};
 
-use crate::copies::{area, behind, differing, first_mut, number, put_back, save};
+use crate::copies::{area, behind, differing, first, first_mut, number, put_back, save};
 use trial_words::layout::{
     BRANCH_LENGTH, BRANCH_TABLE, Bytes, DISK, DISK_LENGTH, MARK_LENGTH, MARK_TABLE, NAME_LENGTH,
     NAME_TABLE, Numbers, PLACE_LENGTH, PLACE_TABLE, RECORD_LENGTH, RECORD_TABLE, SLAB, SLAB_LENGTH,
@@ -19,14 +19,23 @@ pub struct Tables<const B: usize, const R: usize, const P: usize, const N: usize
     pub slab: [u8; S],
 }
 
-// The parts of them that are lent, of the lengths on trial.
+// The parts of the tables that are lent to be written, of the lengths on trial. The slab is lent beside them, since not every call writes it.
 #[derive(Drop)]
 pub struct Lent<'a> {
     pub branches: &'a mut [u32],
     pub records: &'a mut [u32],
     pub places: &'a mut [u32],
     pub names: &'a mut [u32],
-    pub slab: &'a mut [u8],
+}
+
+// The parts of tables and slab that are lent to be read alone.
+#[derive(Clone, Copy)]
+pub struct Shown<'a> {
+    pub branches: &'a [u32],
+    pub records: &'a [u32],
+    pub places: &'a [u32],
+    pub names: &'a [u32],
+    pub slab: &'a [u8],
 }
 
 impl<const B: usize, const R: usize, const P: usize, const N: usize, const S: usize> Tables<
@@ -49,20 +58,38 @@ impl<const B: usize, const R: usize, const P: usize, const N: usize, const S: us
         }
     }
 
-    // Those parts, of the lengths that the table of numbers says.
-    pub fn lent<'a>(&'a mut self, w: &Numbers) -> Lent<'a>
-        ensures branches { result.branches.now ≡ take (slice_index w.now 10) self.old.branches }
-        ensures records { result.records.now ≡ take (slice_index w.now 11) self.old.records }
-        ensures places { result.places.now ≡ take (slice_index w.now 12) self.old.places }
-        ensures names { result.names.now ≡ take (slice_index w.now 13) self.old.names }
-        ensures slab { result.slab.now ≡ take (slice_index w.now 14) self.old.slab }
+    // The parts of the tables and that of the slab, of the lengths that the table of numbers says.
+    pub fn lent<'a>(&'a mut self, w: &Numbers) -> (Lent<'a>, &'a mut [u8])
+        ensures branches { result.0.branches.now ≡ take (slice_index w.now 10) self.old.branches }
+        ensures records { result.0.records.now ≡ take (slice_index w.now 11) self.old.records }
+        ensures places { result.0.places.now ≡ take (slice_index w.now 12) self.old.places }
+        ensures names { result.0.names.now ≡ take (slice_index w.now 13) self.old.names }
+        ensures slab { result.1.now ≡ take (slice_index w.now 14) self.old.slab }
     {
-        Lent {
+        let t = Lent {
             branches: first_mut(&mut self.branches, get(w, BRANCH_LENGTH)),
             records: first_mut(&mut self.records, get(w, RECORD_LENGTH)),
             places: first_mut(&mut self.places, get(w, PLACE_LENGTH)),
             names: first_mut(&mut self.names, get(w, NAME_LENGTH)),
-            slab: first_mut(&mut self.slab, get(w, SLAB_LENGTH)),
+        };
+        let slab = first_mut(&mut self.slab, get(w, SLAB_LENGTH));
+        (t, slab)
+    }
+
+    // The same parts, to be read alone.
+    pub fn shown<'a>(&'a self, w: &Numbers) -> Shown<'a>
+        ensures branches { result.branches.now ≡ take (slice_index w.now 10) self.now.branches }
+        ensures records { result.records.now ≡ take (slice_index w.now 11) self.now.records }
+        ensures places { result.places.now ≡ take (slice_index w.now 12) self.now.places }
+        ensures names { result.names.now ≡ take (slice_index w.now 13) self.now.names }
+        ensures slab { result.slab.now ≡ take (slice_index w.now 14) self.now.slab }
+    {
+        Shown {
+            branches: first(&self.branches, get(w, BRANCH_LENGTH)),
+            records: first(&self.records, get(w, RECORD_LENGTH)),
+            places: first(&self.places, get(w, PLACE_LENGTH)),
+            names: first(&self.names, get(w, NAME_LENGTH)),
+            slab: first(&self.slab, get(w, SLAB_LENGTH)),
         }
     }
 }

@@ -45,8 +45,8 @@ pub fn run(w: &mut Numbers, behind: u32) -> u32
     let mut store = Store::blank();
     set_sizes(w);
     put(w, BEHIND, behind);
-    let lent = store.lent(w);
-    calls::make_over(w, lent);
+    let (lent, slab) = store.lent(w);
+    calls::make_over(w, lent, slab);
     all_weeks(w, &mut store);
     number_at(w, LARGEST)
 }
@@ -90,10 +90,10 @@ fn read_back(w: &mut Numbers, b: &mut Bytes, store: &mut Store, week: u32, momen
 }
 
 // The list of work orders at a moment. Each branch of the run is cut from the one before it: on the way are all that have begun by then.
-fn judge_list(w: &mut Numbers, store: &mut Store, moment: u32) {
+fn judge_list(w: &mut Numbers, store: &Store, moment: u32) {
     let mut list: List = [0; 256];
-    let lent = store.lent(w);
-    calls::list_over(w, lent, moment, &mut list);
+    let shown = store.shown(w);
+    calls::list_over(w, shown, moment, &mut list);
     let rows = begun(store, get(w, HEAD_BRANCHES), moment);
     put(w, COUNT, rows);
     same(w, LIST_COUNT, COUNT);
@@ -176,8 +176,8 @@ fn list(w: &mut Numbers, n: u32) {
 fn hand_in(w: &mut Numbers, b: &mut Bytes, store: &mut Store) {
     encoding::encode(w, b);
     put(w, ROWS_DUE, get(w, HEAD_RECORDS));
-    let lent = store.lent(w);
-    calls::ask_over(w, b, lent);
+    let (lent, slab) = store.lent(w);
+    calls::ask_over(w, b, lent, slab);
     count_answers(w, b, get(w, plus(STOP, 1)));
     raise(w, LARGEST, get(w, HEAD_BRANCHES));
     same(w, plus(STOP, 1), COUNT);
