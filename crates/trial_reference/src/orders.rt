@@ -1,7 +1,7 @@
 // The work orders of the reference: of each moment its branch, and of each branch the one that it was cut from and its work order, as the
 // requests made them. A mark or a revert adds the next moment; nothing else touches them. A list goes from the branch of a moment to the
 // first, and leaves out the branches whose row is gone.
-ghost use Rattle.std.specs.Prelude.{◌≡◌, ◌+◌, ◌%◌, length, get_or};
+ghost use Rattle.std.specs.Prelude.{◌≡◌, ◌+◌, ◌%◌, ◌^◌, length, get_or, slice_index, slice_set};
 
 use crate::refusals::number;
 use crate::{index, read_reaches};
@@ -81,11 +81,12 @@ fn has_row(w: &Numbers, branch: u32) -> bool {
 
 // A work order goes behind the others of the list.
 pub fn list_order(w: &mut Numbers, order: u32)
-    ensures { length w.new ≡ length w.old }
+    ensures kept { length w.new ≡ length w.old }
+    ensures listed { w.new ≡ slice_set (slice_set w.old (430 + slice_index w.old 429 % 16) order) 429 ((slice_index w.old 429 + 1) % 2 ^ 32) }
 {
-    let n = get(w, LIST_COUNT);
-    put(w, LIST_ORDERS + n % 16, order);
-    put(w, LIST_COUNT, plus(n, 1));
+    let n = number_at(w, LIST_COUNT);
+    w[(LIST_ORDERS + n % 16) as usize] = order;
+    w[LIST_COUNT as usize] = plus(n, 1);
 }
 
 // A branch of the way is listed, or one row more is gone.

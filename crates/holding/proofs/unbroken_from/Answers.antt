@@ -1,6 +1,7 @@
-use mathlib.Core.Path.{sym, ◌∙◌}
+use mathlib.Core.Path.{ap, sym, ◌∙◌}
 use Prim.Native.Nat.{◌-◌, ◌<◌}
 use native.Mathlib.Omega.{arith}
+use Rattle.model.specs.declared.Branch.{Branch}
 use Rattle.rows.specs.Rows.{branch_rows_of}
 use Rattle.rows.proofs.Laws.{branch_count}
 use Rattle.holding.proofs.Chain.{table_stairs, unbroken_few, unbroken_gap, unbroken_on}
@@ -15,7 +16,7 @@ overflow_add-c c =
 pub returns-then-b-c : goal.returns-then-b-c
 returns-then-b-c c =
     let gap = unbroken_gap (branch_rows_of c.args.bt.now) c.loop-i.i c.loop-i-test.true (omega (arith, branch_count c.args.bt.now)) (rw (c.branch_at-b.ensures, c.branch_at-c.ensures) at c.if-b-c.true) in
-    rw c.branch_at-b.ensures (sym gap ∙ c.loop-i.invariant)
+    ap (λ (b : Branch). b.start) c.branch_at-b.ensures ∙ (sym gap ∙ c.loop-i.invariant)
 
 pub loop-i-preserved : goal.loop-i-preserved
 loop-i-preserved c =

@@ -6,7 +6,7 @@ use Rattle.record_check.proofs.row_kept.Goals.{else-i-gt0-via-then-i-gt0+else-no
 
 pub returns-then-not-after : goal.returns-then-not-after
 returns-then-not-after c =
-    (c.requires.branches_in.3, row_late _ _ _ _ c.args.i c.requires.branches_in.2 c.if-i-gt0.true (sym c.after.ensures ∙ c.if-not-after.true))
+    (c.requires.branches_in.3, row_late _ _ _ _ c.args.i c.requires.branches_in.2 (omega (arith, c.if-i-gt0.true)) (sym c.after.ensures ∙ c.if-not-after.true))
 
 -- a record that breaks a rule by itself
 pub returns-then-head-r : goal.returns-then-head-r
